@@ -1,0 +1,70 @@
+-- Laws of filled lists, and of a list's blocks of 16.
+-- Assumes nothing.
+use mathlib.Core.Path.{_≡_, refl, sym, ap, ap₂, _∙_, subst}
+use mathlib.Core.List.{List, [], _∷_, _++_, map, append-assoc, append-nil}
+use Prim.Native.Nat.{ℕ, zero, suc, _+_, _-_, _*_, _/_, _≤_, _<_}
+use native.Mathlib.Nat.{le-of-lt}
+use native.Mathlib.Numerals.{add-one}
+use native.Mathlib.Omega.{arith}
+use lib.ListN.{length, getD, take, drop, set, length-append, length-drop, drop-of-length-le, take-append-drop}
+use lib.Seq.{take-all, length-take-le, drop-cons, take-suc, set-at, append-snoc, take-at, drop-at, drop-drop}
+use Rattle.block.specs.Blocks.{blockAt, withBlock, full, rest, blocks, join, onBlocks}
+
+-- ---- a list filled from the front, one element a turn
+
+pub fill-turn : (new old : List ℕ) (i v : ℕ) → i < length new → i < length old → v ≡ getD new i 0
+    → set (take i new ++ drop i old) i v ≡ take (i + 1) new ++ drop (i + 1) old
+fill-turn new old i v h k e =
+    ap (λ (w : List ℕ). set (take i new ++ w) i v) (drop-cons old i 0 k)
+    ∙ set-at (take i new) (getD old i 0) (drop (suc i) old) v i (length-take-le i new (le-of-lt h))
+    ∙ ap (λ (x : ℕ). take i new ++ x ∷ drop (suc i) old) e
+    ∙ sym (append-snoc (take i new) (getD new i 0) (drop (suc i) old))
+    ∙ ap (λ (w : List ℕ). w ++ drop (suc i) old) (sym (take-suc new i 0 h))
+    ∙ ap (λ (n : ℕ). take n new ++ drop n old) (sym (add-one i))
+
+pub fill-done : (new old : List ℕ) (n i : ℕ) → length new ≡ n → length old ≡ n → n ≤ i → i ≤ n → take i new ++ drop i old ≡ new
+fill-done new old n i h k l m =
+    ap₂ (λ (x y : List ℕ). x ++ y) (take-all i new (omega arith)) (drop-of-length-le old {i = i} (omega arith)) ∙ append-nil new
+
+-- ---- the block at an offset
+
+pub length-blockAt : (s : List ℕ) (at : ℕ) → at + 16 ≤ length s → length (blockAt s at) ≡ 16
+length-blockAt s at h = length-take-le 16 (drop at s) (omega (arith, length-drop at s))
+
+pub length-withBlock : (s : List ℕ) (at : ℕ) (b : List ℕ) → at + 16 ≤ length s → length b ≡ 16 → length (withBlock s at b) ≡ length s
+length-withBlock s at b h k =
+    simp (length-append, length-drop) (omega (arith, length-take-le at s (omega arith)))
+
+-- ---- all full blocks, in a loop that goes through them: what is done, and what is left, is the whole
+
+-- the first block apart: y is what k makes of it, and k′ goes on with the others
+on-cons : (k k′ : List (List ℕ) → List (List ℕ)) (d y : List ℕ) → 16 ≤ length d → ((xs : List (List ℕ)) → k (take 16 d ∷ xs) ≡ y ∷ k′ xs)
+    → onBlocks k d ≡ y ++ onBlocks k′ (drop 16 d)
+unfolding onBlocks blocks join
+on-cons k k′ d y h e =
+    let n : full d ≡ suc (full (drop 16 d)) = omega (arith, ap (λ (m : ℕ). m / 16) (length-drop 16 d)) in
+    let m : 16 + full (drop 16 d) * 16 ≡ full d * 16 = omega arith in
+    ap (λ (f : ℕ). join (k (blocks f d)) ++ rest d) n
+    ∙ ap (λ (bs : List (List ℕ)). join bs ++ rest d) (e (blocks (full (drop 16 d)) (drop 16 d)))
+    ∙ append-assoc y (join (k′ (blocks (full (drop 16 d)) (drop 16 d)))) (rest d)
+    ∙ ap (λ (r : List ℕ). y ++ (join (k′ (blocks (full (drop 16 d)) (drop 16 d))) ++ r))
+    (sym (drop-drop (full (drop 16 d) * 16) 16 d ∙ ap (λ (j : ℕ). drop j d) m))
+
+pub on-turn : (k k′ : List (List ℕ) → List (List ℕ)) (at : ℕ) (s y : List ℕ) → at + 16 ≤ length s → length y ≡ 16
+    → ((xs : List (List ℕ)) → k (blockAt s at ∷ xs) ≡ y ∷ k′ xs)
+    → take (at + 16) (withBlock s at y) ++ onBlocks k′ (drop (at + 16) (withBlock s at y)) ≡ take at s ++ onBlocks k (drop at s)
+on-turn k k′ at s y h l e =
+    let n : length (take at s ++ y) ≡ at + 16 = length-append (take at s) y ∙ ap₂ (λ (a b : ℕ). a + b) (length-take-le at s (omega arith)) l in
+    ap₂ (λ (t d : List ℕ). t ++ onBlocks k′ d)
+    (take-at (take at s ++ y) (drop (at + 16) s) (at + 16) n)
+    (drop-at (take at s ++ y) (drop (at + 16) s) (at + 16) n ∙ sym (drop-drop 16 at s))
+    ∙ append-assoc (take at s) y (onBlocks k′ (drop 16 (drop at s)))
+    ∙ ap (λ (r : List ℕ). take at s ++ r) (sym (on-cons k k′ (drop at s) y (omega (arith, length-drop at s)) e))
+
+pub on-done : (k : List (List ℕ) → List (List ℕ)) (at : ℕ) (s : List ℕ) → length s - at < 16 → k [] ≡ [] → take at s ++ onBlocks k (drop at s) ≡ s
+unfolding onBlocks blocks join
+on-done k at s h e =
+    let n : full (drop at s) ≡ 0 = omega (arith, length-drop at s) in
+    ap (λ (f : ℕ). take at s ++ (join (k (blocks f (drop at s))) ++ drop (f * 16) (drop at s))) n
+    ∙ ap (λ (bs : List (List ℕ)). take at s ++ (join bs ++ drop at s)) e
+    ∙ take-append-drop at s

@@ -1,0 +1,6 @@
+-- The laws that this crate's proofs and those of the layers above cite.
+pub mod TabLaws
+pub mod Table
+pub mod XorLaws
+pub mod BlockLaws
+pub mod ArrayBytes

@@ -1,0 +1,49 @@
+// Bytes in blocks of 16.
+//
+// A block goes by value, as [u8; 16]. Contracts of the layers above cite `specs/`: `_⊕_`, `blockAt`, `withBlock`, `onBlocks`, and
+// `tab` for a list given by its places. The laws about them are in `proofs/`: `XorLaws`, `TabLaws`, `BlockLaws`, and `Table`
+// for the rule of a table.
+ghost use mathlib.Core.Path.{_≡_};
+ghost use Prim.Native.Nat.{_+_, _≤_};
+ghost use lib.ListN.{length};
+ghost use Rattle.block.specs.Xor.{_⊕_};
+ghost use Rattle.block.specs.Blocks.{blockAt, withBlock};
+
+// a xor b.
+pub fn xor(a: [u8; 16], b: [u8; 16]) -> [u8; 16]
+    ensures { λ r. ⌜ r ≡ a ⊕ b ⌝ }
+{
+    let mut r = a;
+    let mut i = 0;
+    while i < 16 {
+        r[i] = a[i] ^ b[i];
+        i += 1;
+    }
+    r
+}
+
+// The block of s that starts at `at`.
+pub fn load(s: &[u8], at: usize) -> [u8; 16]
+    requires { ⌜ at + 16 ≤ length (now s) ⌝ }
+    ensures { λ r. ⌜ r ≡ blockAt (now (s .entry)) at ⌝ }
+{
+    let mut r = [0u8; 16];
+    let mut i = 0;
+    while i < 16 {
+        r[i] = s[at + i];
+        i += 1;
+    }
+    r
+}
+
+// Puts b into s from `at` on. Every other byte of s is kept.
+pub fn store(s: &mut [u8], at: usize, b: [u8; 16])
+    requires { ⌜ at + 16 ≤ length (now s) ⌝ }
+    ensures { λ _. ⌜ now (s .exit) ≡ withBlock (now (s .entry)) at b ⌝ }
+{
+    let mut i = 0;
+    while i < 16 {
+        s[at + i] = b[i];
+        i += 1;
+    }
+}

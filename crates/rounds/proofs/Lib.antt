@@ -1,0 +1,3 @@
+-- The laws that this crate's proofs and those of the layers above cite.
+pub mod Columns
+pub mod Undo

@@ -1,0 +1,6 @@
+-- FIPS 197, 4 and 5.1.1: the byte field, the substitution and its tables, and what is proved of them.
+pub mod Field
+pub mod Tables
+pub mod Sub
+pub mod Rule
+pub mod Examples
