@@ -7,7 +7,7 @@ use native.Mathlib.Nat.{le-of-lt}
 use native.Mathlib.Numerals.{add-one}
 use native.Mathlib.Omega.{arith}
 use lib.ListN.{length, getD, take, drop, set, length-append, length-drop, drop-of-length-le, take-append-drop}
-use lib.Seq.{take-all, length-take-le, drop-cons, take-suc, set-at, append-snoc, take-at, drop-at, drop-drop}
+use lib.Seq.{take-all, length-take-le, drop-cons, take-suc, set-at, append-snoc, take-at, drop-at, drop-drop, getD-at}
 use Rattle.block.specs.Blocks.{blockAt, withBlock, full, rest, blocks, join, onBlocks}
 
 -- ---- a list filled from the front, one element a turn
@@ -21,6 +21,12 @@ fill-turn new old i v h k e =
     ∙ sym (append-snoc (take i new) (getD new i 0) (drop (suc i) old))
     ∙ ap (λ (w : List ℕ). w ++ drop (suc i) old) (sym (take-suc new i 0 h))
     ∙ ap (λ (n : ℕ). take n new ++ drop n old) (sym (add-one i))
+
+-- what the turn finds there, where it fills a list in its place
+pub fill-next : (new old : List ℕ) (i : ℕ) → i ≤ length new → i < length old → getD (take i new ++ drop i old) i 0 ≡ getD old i 0
+fill-next new old i h k =
+    ap (λ (w : List ℕ). getD (take i new ++ w) i 0) (drop-cons old i 0 k)
+    ∙ getD-at (take i new) (getD old i 0) (drop (suc i) old) 0 i (length-take-le i new h)
 
 pub fill-done : (new old : List ℕ) (n i : ℕ) → length new ≡ n → length old ≡ n → n ≤ i → i ≤ n → take i new ++ drop i old ≡ new
 fill-done new old n i h k l m =

@@ -1,7 +1,7 @@
 -- Laws of lists given by their places, `tab n f`, and of lists of bytes.
 -- Assumes nothing.
 use mathlib.Core.Path.{_≡_, refl, sym, ap, ap₂, _∙_, subst}
-use mathlib.Core.List.{List, [], _∷_}
+use mathlib.Core.List.{List, [], _∷_, map}
 use Prim.Native.Nat.{ℕ, zero, suc, _<_, zero-le, suc-le-suc}
 use native.Mathlib.Nat.{not-suc-le-zero, le-of-suc-le-suc, suc-inj}
 use native.Mathlib.Omega.{arith}
@@ -33,6 +33,11 @@ module _ {ℓ} {A : Type ℓ} where
   tab-eta zero (x ∷ l) d h = let z : ⊥ = omega arith in absurd z
   tab-eta (suc n) [] d h = let z : ⊥ = omega arith in absurd z
   tab-eta (suc n) (x ∷ l) d h = ap (λ (t : List A). x ∷ t) (tab-eta n l d (suc-inj h))
+
+pub getD-map : (f : ℕ → ℕ) (l : List ℕ) (i : ℕ) → i < length l → getD (map f l) i 0 ≡ f (getD l i 0)
+getD-map f [] i h = absurd (not-suc-le-zero h)
+getD-map f (x ∷ l) zero h = refl
+getD-map f (x ∷ l) (suc i) h = getD-map f l i (le-of-suc-le-suc h)
 
 -- a table whose entries are bytes is a list of bytes
 pub bytes-tab : (n : ℕ) (f : ℕ → ℕ) → ((i : ℕ) → i < n → f i < 256) → Bytes (tab n f)

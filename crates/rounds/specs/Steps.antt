@@ -42,18 +42,9 @@ invMixColumns s = columnsTimes 0x0e 0x0b 0x0d 0x09 s
 abbrev pub addRoundKey : List ℕ → List ℕ → List ℕ
 addRoundKey s k = s ⊕ k
 
--- what the code makes the columns' products of: each byte times x; each column moved up by one row; and of each column a's byte
--- of a row, b's of the next, d's of the one after and e's of the last, summed
+-- what the code makes the columns' products of: each byte times x, and each column moved up by one row
 abbrev pub eachTimesX : List ℕ → List ℕ
 eachTimesX s = tab 16 (λ i. xtime (byte s i))
 
 abbrev pub columnsTurned : List ℕ → List ℕ
 columnsTurned s = tab 16 (λ i. at s ((i % 4 + 1) % 4) (i / 4))
-
-unfoldable pub columnsSum : List ℕ → List ℕ → List ℕ → List ℕ → List ℕ
-columnsSum a b d e =
-    tab 16
-    (λ i.
-    let r : ℕ = i % 4 in
-    let c : ℕ = i / 4 in
-    bitXor (at a r c) (bitXor (at b ((r + 1) % 4) c) (bitXor (at d ((r + 2) % 4) c) (at e ((r + 3) % 4) c))))

@@ -1,10 +1,11 @@
 // FIPS 197, 5.1 and 5.3: the steps of a round and of an inverse round, on a state by value.
 //
 // Contracts cite `specs/Steps.antt`. SubBytes and its inverse are the crate `sbox`'s, AddRoundKey is `block::xor`. That each step is
-// undone by its inverse, and that a block stays a block, is in `proofs/`: `Undo`.
+// undone by its inverse, and that a block stays a block, is in `proofs/`: `Undo`. What the columns' products are made of, also for
+// a layer that goes through many blocks at once, is in `Columns`.
 ghost use mathlib.Core.Path.{_≡_};
 ghost use Rattle.sbox.specs.Field.{xtime};
-ghost use Rattle.rounds.specs.Steps.{shiftRows, invShiftRows, mixColumns, invMixColumns, eachTimesX, columnsSum, columnsTurned};
+ghost use Rattle.rounds.specs.Steps.{shiftRows, invShiftRows, mixColumns, invMixColumns, eachTimesX, columnsTurned};
 use block::xor;
 
 // ShiftRows.
@@ -55,30 +56,22 @@ pub fn inv_shift_rows(s: [u8; 16]) -> [u8; 16]
     ]
 }
 
-// MixColumns: 02 is x, 03 is x and 1.
+// MixColumns: 02 is x, 03 is x and 1, and the row k below is a column turned k times.
 pub fn mix_columns(s: [u8; 16]) -> [u8; 16]
     ensures { λ r. ⌜ r ≡ mixColumns s ⌝ }
 {
     let x2 = each_times_x(s);
-    columns_sum(x2, xor(x2, s), s, s)
+    let last = xor(s, turned(s));
+    xor(x2, turned(xor(xor(x2, s), turned(last))))
 }
 
-// InvMixColumns: 0e is 8, 4 and 2; 0b is 8, 1 and 2; 0d is 8, 1 and 4; 09 is 8 and 1.
+// InvMixColumns: (0e, 0b, 0d, 09) is (02, 03, 01, 01) times (05, 00, 04, 00).
 pub fn inv_mix_columns(s: [u8; 16]) -> [u8; 16]
     ensures { λ r. ⌜ r ≡ invMixColumns s ⌝ }
 {
-    let x2 = each_times_x(s);
-    let x4 = each_times_x(x2);
-    let x8 = each_times_x(x4);
-    let x9 = xor(x8, s);
-    columns_sum(xor(xor(x8, x4), x2), xor(x9, x2), xor(x9, x4), x9)
-}
-
-// Of each column: a's byte of a row, b's of the next, d's of the one after and e's of the last, summed.
-fn columns_sum(a: [u8; 16], b: [u8; 16], d: [u8; 16], e: [u8; 16]) -> [u8; 16]
-    ensures { λ r. ⌜ r ≡ columnsSum a b d e ⌝ }
-{
-    xor(a, turned(xor(b, turned(xor(d, turned(e))))))
+    let both = xor(s, turned(turned(s)));
+    let x4 = each_times_x(each_times_x(both));
+    mix_columns(xor(s, x4))
 }
 
 // Each column moved up by one row: what stood in the row below.
@@ -106,7 +99,7 @@ fn turned(s: [u8; 16]) -> [u8; 16]
 }
 
 // Each byte times x.
-fn each_times_x(s: [u8; 16]) -> [u8; 16]
+pub fn each_times_x(s: [u8; 16]) -> [u8; 16]
     ensures { λ r. ⌜ r ≡ eachTimesX s ⌝ }
 {
     let mut r = s;

@@ -3,8 +3,9 @@
 // Contracts cite `specs/`: `subBytes` and `invSubBytes` of a state, `subWord` of a word. That the tables follow the field's rule and
 // undo each other is proved there, once over the whole tables.
 ghost use mathlib.Core.Path.{_≡_};
+ghost use mathlib.Core.List.{map};
 ghost use Rattle.block.specs.Tab.{byte};
-ghost use Rattle.sbox.specs.Sub.{subBytes, invSubBytes, subWord, lookedUp};
+ghost use Rattle.sbox.specs.Sub.{sub, invSub, subBytes, invSubBytes, subWord, lookedUp};
 
 // FIPS 197, table 4.
 const SBOX: [u8; 256] = [
@@ -568,4 +569,31 @@ pub fn sub_word(w: [u8; 4]) -> [u8; 4]
 {
     let t = SBOX;
     [at(&t, w[0]), at(&t, w[1]), at(&t, w[2]), at(&t, w[3])]
+}
+
+// SubBytes of every byte of s, however many.
+pub fn sub_all(s: &mut [u8])
+    ensures { λ _. ⌜ now (s .exit) ≡ map sub (now (s .entry)) ⌝ }
+{
+    let t = SBOX;
+    all_looked_up(&t, s)
+}
+
+// InvSubBytes of every byte of s.
+pub fn inv_sub_all(s: &mut [u8])
+    ensures { λ _. ⌜ now (s .exit) ≡ map invSub (now (s .entry)) ⌝ }
+{
+    let t = INV_SBOX;
+    all_looked_up(&t, s)
+}
+
+// What the table has for each byte of s, in its place.
+fn all_looked_up(t: &[u8; 256], s: &mut [u8])
+    ensures { λ _. ⌜ now (s .exit) ≡ map (byte (now (t .entry))) (now (s .entry)) ⌝ }
+{
+    let mut i = 0;
+    while i < s.len() {
+        s[i] = at(t, s[i]);
+        i += 1;
+    }
 }

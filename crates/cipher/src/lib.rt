@@ -1,0 +1,71 @@
+// FIPS 197, 5.1 and 5.3: Cipher and InvCipher. The round keys `w` come by value from key setup; `nr` is the number of rounds.
+//
+// Contracts cite `specs/Cipher.antt`. That each direction undoes the other is in `proofs/`: `Undo`.
+ghost use mathlib.Core.Path.{_≡_};
+ghost use mathlib.Core.List.{map};
+ghost use Prim.Native.Nat.{_≤_, _<_};
+ghost use Rattle.block.specs.Blocks.{onBlocks};
+ghost use Rattle.cipher.specs.Cipher.{cipher, invCipher, crypted};
+use block::xor;
+use rounds::inv_mix_columns;
+use rounds::inv_shift_rows;
+use rounds::mix_columns;
+use rounds::shift_rows;
+use sbox::inv_sub_bytes;
+use sbox::sub_bytes;
+
+// One block, enciphered, or with `back` deciphered.
+pub fn crypt(back: bool, w: [[u8; 16]; 15], nr: usize, b: [u8; 16]) -> [u8; 16]
+    requires { ⌜ (0 < nr) × (nr < 15) ⌝ }
+    ensures { λ r. ⌜ r ≡ crypted back w nr b ⌝ }
+{
+    if back {
+        inverse(w, nr, b)
+    } else {
+        forward(w, nr, b)
+    }
+}
+
+// Every full block of s in place; the bytes after them are kept.
+pub fn crypt_blocks(back: bool, w: [[u8; 16]; 15], nr: usize, s: &mut [u8])
+    requires { ⌜ (0 < nr) × (nr < 15) ⌝ }
+    ensures { λ _. ⌜ now (s .exit) ≡ onBlocks (map (crypted back w nr)) (now (s .entry)) ⌝ }
+{
+    let mut at = 0;
+    while s.len() - at >= 16 {
+        let x = block::load(s, at);
+        block::store(s, at, crypt(back, w, nr, x));
+        at += 16;
+    }
+}
+
+// Cipher.
+fn forward(w: [[u8; 16]; 15], nr: usize, b: [u8; 16]) -> [u8; 16]
+    requires { ⌜ (0 < nr) × (nr < 15) ⌝ }
+    ensures { λ r. ⌜ r ≡ cipher w nr b ⌝ }
+{
+    let mut s = xor(b, w[0]);
+    let mut j = 1;
+    while j < nr {
+        let t = mix_columns(shift_rows(sub_bytes(s)));
+        s = xor(t, w[j]);
+        j += 1;
+    }
+    xor(shift_rows(sub_bytes(s)), w[nr])
+}
+
+// InvCipher.
+fn inverse(w: [[u8; 16]; 15], nr: usize, b: [u8; 16]) -> [u8; 16]
+    requires { ⌜ (0 < nr) × (nr < 15) ⌝ }
+    ensures { λ r. ⌜ r ≡ invCipher w nr b ⌝ }
+{
+    let mut s = xor(b, w[nr]);
+    let mut j = nr - 1;
+    while j > 0 {
+        let t = xor(inv_sub_bytes(inv_shift_rows(s)), w[j]);
+        let u = inv_mix_columns(t);
+        s = u;
+        j -= 1;
+    }
+    xor(inv_sub_bytes(inv_shift_rows(s)), w[0])
+}

@@ -1,0 +1,2 @@
+-- The laws of the key schedule that this crate's proofs and those of the layers above cite.
+pub mod Laws
