@@ -74,3 +74,16 @@ on-done k at s h e =
     ap (λ (f : ℕ). take at s ++ (join (k (blocks f (drop at s))) ++ drop (f * 16) (drop at s))) n
     ∙ ap (λ (bs : List (List ℕ)). take at s ++ (join bs ++ drop at s)) e
     ∙ take-append-drop at s
+
+-- the first n blocks apart, where each is dealt with by itself
+pub on-many : (f : List ℕ → List ℕ) (n : ℕ) (d : List ℕ) → 16 * n ≤ length d
+    → onBlocks (map f) d ≡ join (map f (blocks n d)) ++ onBlocks (map f) (drop (16 * n) d)
+unfolding blocks join
+on-many f zero d h = refl
+on-many f (suc n) d h =
+    let m : 16 + 16 * n ≡ 16 * suc n = omega arith in
+    on-cons (map f) (map f) d (f (take 16 d)) (omega arith) (λ xs. refl)
+    ∙ ap (λ (r : List ℕ). f (take 16 d) ++ r)
+      (on-many f n (drop 16 d) (omega (arith, length-drop 16 d))
+      ∙ ap (λ (r : List ℕ). join (map f (blocks n (drop 16 d))) ++ onBlocks (map f) r) (drop-drop (16 * n) 16 d ∙ ap (λ (j : ℕ). drop j d) m))
+    ∙ sym (append-assoc (f (take 16 d)) (join (map f (blocks n (drop 16 d)))) (onBlocks (map f) (drop (16 * suc n) d)))

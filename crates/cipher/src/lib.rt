@@ -2,8 +2,9 @@
 //
 // Contracts cite `specs/Cipher.antt`. That each direction undoes the other is in `proofs/`: `Undo`.
 ghost use mathlib.Core.Path.{_≡_};
-ghost use mathlib.Core.List.{map};
-ghost use Prim.Native.Nat.{_≤_, _<_};
+ghost use mathlib.Core.List.{_++_, map};
+ghost use Prim.Native.Nat.{_+_, _≤_, _<_};
+ghost use lib.ListN.{length, take, drop};
 ghost use Rattle.block.specs.Blocks.{onBlocks};
 ghost use Rattle.cipher.specs.Cipher.{cipher, invCipher, crypted};
 use block::xor;
@@ -31,7 +32,15 @@ pub fn crypt_blocks(back: bool, w: [[u8; 16]; 15], nr: usize, s: &mut [u8])
     requires { ⌜ (0 < nr) × (nr < 15) ⌝ }
     ensures { λ _. ⌜ now (s .exit) ≡ onBlocks (map (crypted back w nr)) (now (s .entry)) ⌝ }
 {
-    let mut at = 0;
+    singly(back, w, nr, s, 0);
+}
+
+// Every full block of s from `from` on, one after the other.
+fn singly(back: bool, w: [[u8; 16]; 15], nr: usize, s: &mut [u8], from: usize)
+    requires { ⌜ (0 < nr) × (nr < 15) × (from ≤ length (now s)) ⌝ }
+    ensures { λ _. ⌜ now (s .exit) ≡ take from (now (s .entry)) ++ onBlocks (map (crypted back w nr)) (drop from (now (s .entry))) ⌝ }
+{
+    let mut at = from;
     while s.len() - at >= 16 {
         let x = block::load(s, at);
         block::store(s, at, crypt(back, w, nr, x));

@@ -155,7 +155,7 @@ mix-by-turning s x2 last h e f =
     ∙ ⊕-tab 16 x (columnsTurned t) refl refl
 
 -- times (05, 00, 04, 00): the byte, and 04 of its sum with the one two rows below
-five-and-four : (x y u v : ℕ) → x < 256 → y < 256 → bitXor x (xtime (xtime (bitXor x y))) ≡ sum (5 • x) (0 • u) (4 • y) (0 • v)
+pub five-and-four : (x y u v : ℕ) → x < 256 → y < 256 → bitXor x (xtime (xtime (bitXor x y))) ≡ sum (5 • x) (0 • u) (4 • y) (0 • v)
 unfolding _•_
 five-and-four x y u v h k =
     ap (λ (z : ℕ). bitXor x z) (•-sum 4 x y h k)
