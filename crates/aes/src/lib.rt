@@ -1,0 +1,50 @@
+// AES with keys of 16 and 32 bytes, both ways (FIPS 197).
+//
+// `encipher` and `decipher` are the calls of 01: they take any key and any block, and refuse with 1 and 2. The layer above uses three
+// more, which ask that the key has one of the sizes: `key_setup`, `crypt` and `crypt_blocks`. Its contracts cite `aes` and
+// `crypted`, and its proofs go by `specs/Promise.antt` alone: a block stays a block, and each direction undoes the other.
+pub use cipher::crypt;
+pub use cipher::crypt_blocks;
+pub use schedule::key_setup;
+pub use schedule::key_size;
+pub use schedule::rounds_of;
+ghost use Rattle.aes.specs.Calls.{Called};
+ghost use mathlib.Core.Bool.{true, false};
+
+// What a call answers: 01's numbers 0, 1 and 2.
+pub enum Answer {
+    Done,
+    KeyLength,
+    BlockLength,
+}
+
+// Overwrites the block with its encipherment under the key.
+pub fn encipher(key: &[u8], block: &mut [u8]) -> Answer
+    ensures { λ r. ⌜ Called false (now (key .entry)) (now (block .entry)) r (now (block .exit)) ⌝ }
+{
+    call(false, key, block)
+}
+
+// Overwrites the block with its decipherment under the key.
+pub fn decipher(key: &[u8], block: &mut [u8]) -> Answer
+    ensures { λ r. ⌜ Called true (now (key .entry)) (now (block .entry)) r (now (block .exit)) ⌝ }
+{
+    call(true, key, block)
+}
+
+// 01, AES: the key is tested first, then the block.
+fn call(back: bool, key: &[u8], block: &mut [u8]) -> Answer
+    ensures { λ r. ⌜ Called back (now (key .entry)) (now (block .entry)) r (now (block .exit)) ⌝ }
+{
+    let n = key.len();
+    if !key_size(n) {
+        return Answer::KeyLength;
+    }
+    if block.len() != 16 {
+        return Answer::BlockLength;
+    }
+    let w = key_setup(key);
+    let b = block::load(block, 0);
+    block::store(block, 0, crypt(back, w, rounds_of(n), b));
+    Answer::Done
+}
