@@ -1,0 +1,21 @@
+# make        builds the library for C from its proved sources, and runs the example program over it
+# make test   the whole gate: every proof, every edit that must fail, every program, and the host's tests
+# make bench  the benchmark (times depend on the machine; it is no test)
+.PHONY: all test bench libraries
+
+all: libraries
+	@$(MAKE) --no-print-directory host-example
+
+libraries:
+	@tools/need rt cc
+	@rt staticlib lagunedo | grep -v '^fn ' | tail -n 1
+
+test:
+	@tools/gate
+
+bench: libraries
+	@tools/need cargo
+	@rt staticlib probe | tail -n 1
+	@$(MAKE) --no-print-directory host-bench
+
+include host/host.mk

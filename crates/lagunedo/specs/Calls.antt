@@ -1,0 +1,14 @@
+-- What the calls for C promise of their number and of the bytes afterwards, and that the promise determines them.
+-- Assumes nothing.
+use mathlib.Core.Bool.{Bool}
+use mathlib.Core.Path.{_≡_, sym, _∙_}
+use mathlib.Core.List.{List}
+use Prim.Native.Nat.{ℕ}
+use Rattle.aes.specs.Calls.{number, afterwards}
+
+-- lagunedo_aes_encipher, and with `back` lagunedo_aes_decipher
+abbrev pub AesCalled : Bool → List ℕ → List ℕ → ℕ → List ℕ → Type 0
+AesCalled back k b n b′ = (n ≡ number k b) × (b′ ≡ afterwards back k b)
+
+pub aes-determined : (back : Bool) (k b : List ℕ) (n n′ : ℕ) (s s′ : List ℕ) → AesCalled back k b n s → AesCalled back k b n′ s′ → (n ≡ n′) × (s ≡ s′)
+aes-determined back k b n n′ s s′ p q = (p .0 ∙ sym (q .0), p .1 ∙ sym (q .1))

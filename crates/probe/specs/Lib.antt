@@ -1,0 +1,2 @@
+-- What the probe promises.
+pub mod Calls

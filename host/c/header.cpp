@@ -1,0 +1,18 @@
+// Compiled and never run: the header is usable from C++, by its macros, by
+// the library's own functions, and with NULL.
+
+#include "lagunedo.h"
+
+uint32_t header_from_cpp(const uint8_t *key, uint8_t *block)
+{
+    uint32_t (*own)(const uint8_t *, size_t, uint8_t *, size_t) =
+        lagunedo_aes_encipher;
+
+    if (own(key, 16, block, 16) != LAGUNEDO_DONE)
+        return LAGUNEDO_KEY_LENGTH;
+    if ((lagunedo_aes_decipher)(key, 16, block, 16) != LAGUNEDO_DONE)
+        return LAGUNEDO_KEY_LENGTH;
+    if (::lagunedo_aes_encipher(key, 16, nullptr, 0) != LAGUNEDO_MESSAGE_LENGTH)
+        return LAGUNEDO_MESSAGE_LENGTH;
+    return lagunedo_aes_decipher(nullptr, 0, block, 16);
+}

@@ -1,0 +1,39 @@
+# The host side: the library's header, its tests in C and Rust, the example
+# and the benchmark. Included by the Makefile at the root, where every recipe
+# runs. All products go under target/.
+
+# The folder of liblagunedo.a and libprobe.a. One named here instead has to be
+# an absolute path, since cargo runs its build scripts elsewhere.
+LAGUNEDO_STATICLIB ?= target/staticlib
+
+HOST_OUT := target/host
+HOST_LIBRARY := $(LAGUNEDO_STATICLIB)/liblagunedo.a
+HOST_HEADER := host/include/lagunedo.h
+HOST_CFLAGS := -std=c99 -O2 -Wall -Wextra -Wpedantic -Wconversion -Werror
+HOST_CXXFLAGS := -std=c++11 -O2 -Wall -Wextra -Werror
+HOST_CARGO := CARGO_TARGET_DIR=target/cargo cargo
+HOST_CARGO_FLAGS := --release --offline --locked --manifest-path host/rust/Cargo.toml
+
+.PHONY: host-c host-example host-rust host-bench
+
+host-c: $(HOST_OUT)/test $(HOST_OUT)/header.o
+	$(HOST_OUT)/test
+
+host-example: $(HOST_OUT)/example
+	$(HOST_OUT)/example
+
+# The archives are rebuilt by the proof tool; cargo looks at them itself.
+host-rust:
+	$(HOST_CARGO) test $(HOST_CARGO_FLAGS)
+
+host-bench:
+	$(HOST_CARGO) run $(HOST_CARGO_FLAGS) --package bench
+
+$(HOST_OUT)/test $(HOST_OUT)/example: $(HOST_OUT)/%: host/c/%.c $(HOST_HEADER) $(HOST_LIBRARY)
+	@mkdir -p $(HOST_OUT)
+	$(CC) $(HOST_CFLAGS) -Ihost/include -o $@ $< $(HOST_LIBRARY)
+
+# Compiled only: it shows that the header is usable from C++.
+$(HOST_OUT)/header.o: host/c/header.cpp $(HOST_HEADER)
+	@mkdir -p $(HOST_OUT)
+	$(CXX) $(HOST_CXXFLAGS) -Ihost/include -c -o $@ $<

@@ -1,0 +1,5 @@
+//! Links the archive of inner calls.
+
+fn main() {
+    archive::link("probe");
+}
