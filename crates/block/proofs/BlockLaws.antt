@@ -84,6 +84,21 @@ on-many f (suc n) d h =
     let m : 16 + 16 * n ≡ 16 * suc n = omega arith in
     on-cons (map f) (map f) d (f (take 16 d)) (omega arith) (λ xs. refl)
     ∙ ap (λ (r : List ℕ). f (take 16 d) ++ r)
-      (on-many f n (drop 16 d) (omega (arith, length-drop 16 d))
-      ∙ ap (λ (r : List ℕ). join (map f (blocks n (drop 16 d))) ++ onBlocks (map f) r) (drop-drop (16 * n) 16 d ∙ ap (λ (j : ℕ). drop j d) m))
+    (on-many f n (drop 16 d) (omega (arith, length-drop 16 d))
+    ∙ ap (λ (r : List ℕ). join (map f (blocks n (drop 16 d))) ++ onBlocks (map f) r) (drop-drop (16 * n) 16 d ∙ ap (λ (j : ℕ). drop j d) m))
     ∙ sym (append-assoc (f (take 16 d)) (join (map f (blocks n (drop 16 d)))) (onBlocks (map f) (drop (16 * suc n) d)))
+
+-- a loop that goes through n blocks a turn
+pub on-group : (f : List ℕ → List ℕ) (n at : ℕ) (s s′ : List ℕ) → at + 16 * n ≤ length s → length s′ ≡ length s
+    → s′ ≡ take at s ++ join (map f (blocks n (drop at s))) ++ drop (at + 16 * n) s
+    → take (at + 16 * n) s′ ++ onBlocks (map f) (drop (at + 16 * n) s′) ≡ take at s ++ onBlocks (map f) (drop at s)
+on-group f n at s s′ h k e =
+    let m : ℕ = at + 16 * n in
+    let j : List ℕ = join (map f (blocks n (drop at s))) in
+    let l : length (take at s ++ j) ≡ m = omega (arith, ap length e, length-append (take at s ++ j) (drop m s), length-drop m s) in
+    ap (λ (r : List ℕ). take m r ++ onBlocks (map f) (drop m r)) e
+    ∙ ap₂ (λ (t d : List ℕ). t ++ onBlocks (map f) d)
+    (take-at (take at s ++ j) (drop m s) m l)
+    (drop-at (take at s ++ j) (drop m s) m l ∙ sym (drop-drop (16 * n) at s))
+    ∙ append-assoc (take at s) j (onBlocks (map f) (drop (16 * n) (drop at s)))
+    ∙ ap (λ (r : List ℕ). take at s ++ r) (sym (on-many f n (drop at s) (omega (arith, length-drop at s))))

@@ -34,6 +34,10 @@ module _ {ℓ} {A : Type ℓ} where
   tab-eta (suc n) [] d h = let z : ⊥ = omega arith in absurd z
   tab-eta (suc n) (x ∷ l) d h = ap (λ (t : List A). x ∷ t) (tab-eta n l d (suc-inj h))
 
+pub map-tab {ℓ κ} : {A : Type ℓ} {B : Type κ} (f : A → B) (g : ℕ → A) (n : ℕ) → map f (tab n g) ≡ tab n (λ i. f (g i))
+map-tab f g zero = refl
+map-tab {B = B} f g (suc n) = ap (λ (t : List B). f (g zero) ∷ t) (map-tab f (λ i. g (suc i)) n)
+
 pub getD-map : (f : ℕ → ℕ) (l : List ℕ) (i : ℕ) → i < length l → getD (map f l) i 0 ≡ f (getD l i 0)
 getD-map f [] i h = absurd (not-suc-le-zero h)
 getD-map f (x ∷ l) zero h = refl

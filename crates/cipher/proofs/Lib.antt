@@ -1,2 +1,3 @@
--- The laws that the layers above cite.
+-- The laws that this crate's proofs and those of the layers above cite.
+pub mod RoundLaws
 pub mod Undo

@@ -7,6 +7,9 @@ ghost use Prim.Native.Nat.{_+_, _≤_, _<_};
 ghost use lib.ListN.{length, take, drop};
 ghost use Rattle.block.specs.Blocks.{onBlocks};
 ghost use Rattle.cipher.specs.Cipher.{cipher, invCipher, crypted};
+
+mod wide;
+
 use block::xor;
 use rounds::inv_mix_columns;
 use rounds::inv_shift_rows;
@@ -32,7 +35,8 @@ pub fn crypt_blocks(back: bool, w: [[u8; 16]; 15], nr: usize, s: &mut [u8])
     requires { ⌜ (0 < nr) × (nr < 15) ⌝ }
     ensures { λ _. ⌜ now (s .exit) ≡ onBlocks (map (crypted back w nr)) (now (s .entry)) ⌝ }
 {
-    singly(back, w, nr, s, 0);
+    let at = wide::together(back, w, nr, s);
+    singly(back, w, nr, s, at);
 }
 
 // Every full block of s from `from` on, one after the other.

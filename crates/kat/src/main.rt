@@ -84,7 +84,8 @@ fn print_number(a: Answer) {
         Answer::Done => io::write_all(STDOUT_FILENO, b"0 "),
         Answer::KeyLength => io::write_all(STDOUT_FILENO, b"1 "),
         Answer::BlockLength => io::write_all(STDOUT_FILENO, b"2 "),
-    };
+    }
+    ;
 }
 
 fn print_bytes(s: &[u8]) {

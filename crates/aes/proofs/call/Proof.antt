@@ -68,8 +68,8 @@ returns-3 c =
     done (a .back) k b (sized e) (ks .before .if2 .left) (st .store .last .0)
     (st .store .ensures
     ∙ over (a .back) k b (ks .before .if2 .left) (lo .load .result) (cr .crypt .result) (lo .load .ensures)
-      (cr .crypt .ensures
-      ∙ ap₂ (λ (w : List (List ℕ)) (n : ℕ). crypted (a .back) w n (lo .load .result)) (ks .key-setup .ensures) (ro .rounds-of .ensures)))
+    (cr .crypt .ensures
+    ∙ ap₂ (λ (w : List (List ℕ)) (n : ℕ). crypted (a .back) w n (lo .load .result)) (ks .key-setup .ensures) (ro .rounds-of .ensures)))
 
 pub call-spec : {M : Type 1} → statement M
 call-spec =

@@ -1,14 +1,15 @@
 -- `cipher::forward` meets its contract: before turn j the state has gone through the rounds 1 to j - 1.
 -- Assumes nothing.
-use mathlib.Core.Path.{_≡_, refl, sym, ap, ap₂, _∙_}
+use mathlib.Core.Path.{_≡_, ap, ap₂, _∙_}
 use mathlib.Core.List.{List}
-use Prim.Native.Nat.{ℕ, suc, _+_, _-_, _≤_, _<_}
+use Prim.Native.Nat.{ℕ, _-_, _≤_}
 use native.Mathlib.Omega.{arith}
 use borrow.Author.Needs.{needs}
 use Rattle.block.specs.Xor.{_⊕_}
 use Rattle.sbox.specs.Sub.{subBytes}
 use Rattle.rounds.specs.Steps.{shiftRows, mixColumns}
 use Rattle.cipher.specs.Cipher.{key, throughRounds, cipher}
+use Rattle.cipher.proofs.RoundLaws.{no-round, round-done}
 use Rattle.cipher.proofs.forward.Statement.{statement}
 use Rattle.cipher.proofs.forward.Tie as tie
 
@@ -18,15 +19,6 @@ Inv-loop nr w s₀ j₀ s j = (1 ≤ j) × (j ≤ nr) × (s ≡ throughRounds w 
 abbrev μ-loop : tie.MeasureT-loop
 μ-loop nr w s₀ j₀ s j = nr - j
 
--- one more round
-round-done : (w : List (List ℕ)) (j : ℕ) (s : List ℕ) → 1 ≤ j
-    → mixColumns (shiftRows (subBytes (throughRounds w (j - 1) s))) ⊕ key w j ≡ throughRounds w (j + 1 - 1) s
-unfolding throughRounds
-round-done w j s h =
-    let m : suc (j - 1) ≡ j = omega arith in
-    let n : suc (j - 1) ≡ j + 1 - 1 = omega arith in
-    ap (λ (i : ℕ). mixColumns (shiftRows (subBytes (throughRounds w (j - 1) s))) ⊕ key w i) (sym m) ∙ ap (λ (i : ℕ). throughRounds w i s) n
-
 array-copy-out-xor : tie.Need-array-copy-out-xor Inv-loop μ-loop
 array-copy-out-xor c = omega arith
 
@@ -34,8 +26,7 @@ xor-requires : tie.Need-xor-requires Inv-loop μ-loop
 xor-requires c κs = search needs
 
 loop-holds : tie.Need-loop-holds Inv-loop μ-loop
-unfolding throughRounds
-loop-holds c = (omega arith, omega arith, refl)
+loop-holds c = (omega arith, omega arith, no-round (c .before .before .args .t1) (c .xor .result))
 
 sub-bytes-requires : tie.Need-sub-bytes-requires Inv-loop μ-loop
 sub-bytes-requires c κs = search needs

@@ -2,13 +2,14 @@
 -- Assumes nothing.
 use mathlib.Core.Path.{_≡_, refl, sym, ap, _∙_}
 use mathlib.Core.List.{List}
-use Prim.Native.Nat.{ℕ, suc, _-_, _≤_, _<_}
+use Prim.Native.Nat.{ℕ, _-_, _<_}
 use native.Mathlib.Omega.{arith}
 use borrow.Author.Needs.{needs}
 use Rattle.block.specs.Xor.{_⊕_}
 use Rattle.sbox.specs.Sub.{invSubBytes}
 use Rattle.rounds.specs.Steps.{invShiftRows, invMixColumns}
 use Rattle.cipher.specs.Cipher.{key, inverseFrom, invCipher}
+use Rattle.cipher.proofs.RoundLaws.{round-undone, last-undone}
 use Rattle.cipher.proofs.inverse.Statement.{statement}
 use Rattle.cipher.proofs.inverse.Tie as tie
 
@@ -17,17 +18,6 @@ Inv-loop nr w s₀ j₀ s j = (j < nr) × (inverseFrom w j s ≡ inverseFrom w (
 
 abbrev μ-loop : tie.MeasureT-loop
 μ-loop nr w s₀ j₀ s j = j
-
-round-undone : (w : List (List ℕ)) (j : ℕ) (s : List ℕ) → 0 < j
-    → inverseFrom w (j - 1) (invMixColumns (invSubBytes (invShiftRows s) ⊕ key w j)) ≡ inverseFrom w j s
-unfolding inverseFrom
-round-undone w j s h =
-    let m : suc (j - 1) ≡ j = omega arith in
-    ap (λ (i : ℕ). inverseFrom w (j - 1) (invMixColumns (invSubBytes (invShiftRows s) ⊕ key w i))) (sym m) ∙ ap (λ (i : ℕ). inverseFrom w i s) m
-
-last-undone : (w : List (List ℕ)) (s : List ℕ) → invSubBytes (invShiftRows s) ⊕ key w 0 ≡ inverseFrom w 0 s
-unfolding inverseFrom
-last-undone w s = refl
 
 mul-xor : tie.Need-mul-xor Inv-loop μ-loop
 mul-xor c = omega arith

@@ -51,13 +51,14 @@ loop-again c =
     let f : List ℕ → List ℕ = crypted (a .back) (a .w) (a .nr) in
     let at = k .loop .at in
     let y = cr .crypt .result in
-    let n : length (st .store .last .0) ≡ length (k .loop .s) = st .store .kept .0 in
-    (omega arith,
-    n ∙ k .loop .inv .1,
-    ap (λ (r : List ℕ). take (at + 16) r ++ onBlocks (map f) (drop (at + 16) r)) (st .store .ensures)
-    ∙ on-turn (map f) (map f) at (k .loop .s) y (omega arith) (search needs)
-      (λ xs. ap (λ (z : List ℕ). z ∷ map f xs) (sym (cr .crypt .ensures ∙ ap f (cr .before .before .load .ensures))))
-    ∙ k .loop .inv .2)
+    let n : length (st .store .last .0) ≡ length (k .loop .s) = st .store .kept .0 in (
+      omega arith,
+      n ∙ k .loop .inv .1,
+      ap (λ (r : List ℕ). take (at + 16) r ++ onBlocks (map f) (drop (at + 16) r)) (st .store .ensures)
+          ∙ on-turn (map f) (map f) at (k .loop .s) y (omega arith) (search needs)
+          (λ xs. ap (λ (z : List ℕ). z ∷ map f xs) (sym (cr .crypt .ensures ∙ ap f (cr .before .before .load .ensures))))
+          ∙ k .loop .inv .2,
+    )
 
 same-length : tie.Need-same-length Inv-loop μ-loop
 same-length c = c .before .loop .inv .1

@@ -50,11 +50,12 @@ returns-2 c =
     let cb = c .before .before in
     let ro = cb .before .before in
     let e = ro .before .before in
-    let a = e .before .before .before .before .args in
-    (ap (λ (t : Bool). cond t 0 1) (sym (sized e)),
-    cb .crypt-blocks .ensures
-    ∙ ap₂ (λ (w : List (List ℕ)) (n : ℕ). onBlocks (map (crypted (a .back) w n)) (a .buffer .now)) (ro .before .key-setup .ensures) (ro .rounds-of .ensures)
-    ∙ ap (λ (t : Bool). cond t (onBlocks (map (aes (a .back) (a .key .now))) (a .buffer .now)) (a .buffer .now)) (sym (sized e)))
+    let a = e .before .before .before .before .args in (
+      ap (λ (t : Bool). cond t 0 1) (sym (sized e)),
+      cb .crypt-blocks .ensures
+          ∙ ap₂ (λ (w : List (List ℕ)) (n : ℕ). onBlocks (map (crypted (a .back) w n)) (a .buffer .now)) (ro .before .key-setup .ensures) (ro .rounds-of .ensures)
+          ∙ ap (λ (t : Bool). cond t (onBlocks (map (aes (a .back) (a .key .now))) (a .buffer .now)) (a .buffer .now)) (sym (sized e)),
+    )
 
 pub lagunedo-probe-aes-blocks-spec : {M : Type 1} → statement M
 lagunedo-probe-aes-blocks-spec =

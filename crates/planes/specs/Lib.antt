@@ -1,0 +1,3 @@
+-- Sixteen blocks in planes.
+pub mod Lanes
+pub mod Planes
