@@ -1,6 +1,6 @@
 //! The peer `host/c/plain_aes.c`.
 
-unsafe extern "C" {
+extern "C" {
     fn plain_aes_blocks(
         key: *const u8,
         key_length: usize,

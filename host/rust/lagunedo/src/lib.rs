@@ -6,7 +6,7 @@ mod refusal;
 pub use refusal::Refusal;
 use refusal::answer;
 
-unsafe extern "C" {
+extern "C" {
     fn lagunedo_aes_encipher(
         key: *const u8,
         key_length: usize,

@@ -1,9 +1,8 @@
 //! Inner calls of the proved library as safe functions, so that a layer can
 //! be tested and timed on its own. They are no part of the interface for the
-//! job server. The archive holds the same inner symbols as the one for C:
-//! never link this crate and `lagunedo` into one program.
+//! job server.
 
-unsafe extern "C" {
+extern "C" {
     fn lagunedo_probe_aes_blocks(
         key: *const u8,
         key_length: usize,
