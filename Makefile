@@ -8,14 +8,14 @@ all: libraries
 
 libraries:
 	@tools/need rt cc
-	@rt staticlib lagunedo | grep -v '^fn ' | tail -n 1
+	@tools/quiet rt staticlib lagunedo
 
 test:
 	@tools/gate
 
 bench: libraries
 	@tools/need cargo
-	@rt staticlib probe | tail -n 1
+	@tools/quiet rt staticlib probe
 	@$(MAKE) --no-print-directory host-bench
 
 include host/host.mk

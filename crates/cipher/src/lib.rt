@@ -8,6 +8,7 @@ ghost use lib.ListN.{length, take, drop};
 ghost use Rattle.block.specs.Blocks.{onBlocks};
 ghost use Rattle.cipher.specs.Cipher.{cipher, invCipher, crypted};
 
+// Up to sixteen blocks at once.
 mod wide;
 
 use block::xor;

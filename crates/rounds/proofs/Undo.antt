@@ -2,24 +2,24 @@
 -- Assumes nothing.
 use mathlib.Core.Path.{_≡_, _∙_}
 use mathlib.Core.List.{List}
-use Prim.Native.Nat.{ℕ, _+_, _*_, _/_, _%_}
+use Prim.Native.Nat.{ℕ}
+use Rattle.block.specs.Tab.{byte}
 use Rattle.block.specs.Bytes.{Block}
 use Rattle.block.proofs.Table.{agree}
 use Rattle.block.proofs.TabLaws.{tab-eta, block-tab}
 use Rattle.sbox.specs.Field.{_•_}
-use Rattle.rounds.specs.Steps.{at, shiftRows, invShiftRows, mixColumns, invMixColumns}
+use Rattle.rounds.specs.Steps.{shifted, shiftedBack, shiftRows, invShiftRows, mixColumns, invMixColumns}
 use Rattle.rounds.proofs.Columns.{four, columns-product, columns-one, block-columnsTimes}
 
 -- ---- ShiftRows
 
 pub block-shiftRows : {s : List ℕ} → Block s → Block (shiftRows s)
 unfolding shiftRows
-block-shiftRows {s} b = block-tab (λ i. at s (i % 4) ((i / 4 + i % 4) % 4)) (λ i h. b .bytes .below (i % 4 + 4 * ((i / 4 + i % 4) % 4)))
+block-shiftRows {s} b = block-tab (λ i. byte s (shifted i)) (λ i h. b .bytes .below (shifted i))
 
 pub block-invShiftRows : {s : List ℕ} → Block s → Block (invShiftRows s)
 unfolding invShiftRows
-block-invShiftRows {s} b =
-    block-tab (λ i. at s (i % 4) ((i / 4 + 3 * (i % 4)) % 4)) (λ i h. b .bytes .below (i % 4 + 4 * ((i / 4 + 3 * (i % 4)) % 4)))
+block-invShiftRows {s} b = block-tab (λ i. byte s (shiftedBack i)) (λ i h. b .bytes .below (shiftedBack i))
 
 pub invShiftRows-shiftRows : {s : List ℕ} → Block s → invShiftRows (shiftRows s) ≡ s
 unfolding shiftRows invShiftRows

@@ -8,17 +8,26 @@ use Rattle.block.specs.Tab.{tab, byte}
 use Rattle.block.specs.Xor.{_⊕_}
 use Rattle.sbox.specs.Field.{xtime, _•_}
 
--- s[r,c]
+-- the place of row r and column c, and s[r,c]
+abbrev pub place : ℕ → ℕ → ℕ
+place r c = r + 4 * c
+
 abbrev pub at : List ℕ → ℕ → ℕ → ℕ
-at s r c = byte s (r + 4 * c)
+at s r c = byte s (place r c)
 
 -- 5.1.2, ShiftRows: s'[r,c] = s[r, (c + r) mod 4]
-unfoldable pub shiftRows : List ℕ → List ℕ
-shiftRows s = tab 16 (λ i. at s (i % 4) ((i / 4 + i % 4) % 4))
+abbrev pub shifted : ℕ → ℕ
+shifted i = place (i % 4) ((i / 4 + i % 4) % 4)
 
--- 5.3.1, InvShiftRows: s'[r,c] = s[r, (c - r) mod 4]; 4 - r is - r modulo 4
+unfoldable pub shiftRows : List ℕ → List ℕ
+shiftRows s = tab 16 (λ i. byte s (shifted i))
+
+-- 5.3.1, InvShiftRows: s'[r,c] = s[r, (c - r) mod 4]; 3 * r is - r modulo 4
+abbrev pub shiftedBack : ℕ → ℕ
+shiftedBack i = place (i % 4) ((i / 4 + 3 * (i % 4)) % 4)
+
 unfoldable pub invShiftRows : List ℕ → List ℕ
-invShiftRows s = tab 16 (λ i. at s (i % 4) ((i / 4 + 3 * (i % 4)) % 4))
+invShiftRows s = tab 16 (λ i. byte s (shiftedBack i))
 
 -- 5.1.3 and 5.3.3, each column times a fixed polynomial: in row r the sum of a • s[r,c], b • s[r+1,c], d • s[r+2,c] and
 -- e • s[r+3,c], rows modulo 4

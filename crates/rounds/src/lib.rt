@@ -111,9 +111,9 @@ pub fn each_times_x(s: [u8; 16]) -> [u8; 16]
     r
 }
 
-// A byte times x, without a branch: 27 is what x^8 leaves.
+// A byte times x, without a branch: 0x1b is what x^8 leaves.
 fn times_x(b: u8) -> u8
     ensures { λ r. ⌜ r ≡ xtime b ⌝ }
 {
-    (b << 1) ^ ((b >> 7) * 27)
+    (b << 1) ^ ((b >> 7) * 0x1b)
 }

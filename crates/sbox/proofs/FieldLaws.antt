@@ -7,10 +7,10 @@ use native.Mathlib.Omega.{arith}
 use lib.Bits.{bitXor, xor-zero-r, xor-shr, xor-mod, xor-block}
 use lib.Dec.{lit<}
 use Rattle.block.proofs.XorLaws.{xor-byte, xor-exchange}
-use Rattle.sbox.specs.Field.{xtime, plus, timesBy, _•_}
+use Rattle.sbox.specs.Field.{reduction, xtime, plus, timesBy, _•_}
 
 xtime-byte : (x : ℕ) → x < 256 → xtime x < 256
-xtime-byte x h = xor-byte (x * 2 % 256) (x / 128 * 27) (omega arith) (omega arith)
+xtime-byte x h = xor-byte (x * 2 % 256) (x / 128 * reduction) (omega arith) (omega arith)
 
 plus-byte : (d x s : ℕ) → x < 256 → s < 256 → plus d x s < 256
 plus-byte zero x s h k = k
@@ -25,7 +25,7 @@ unfolding _•_
 •-byte a x h = times-byte 8 a x h
 
 -- what x^8 leaves, of two top bits
-carry-sum : (p q : ℕ) → p < 2 → q < 2 → bitXor p q * 27 ≡ bitXor (p * 27) (q * 27)
+carry-sum : (p q : ℕ) → p < 2 → q < 2 → bitXor p q * reduction ≡ bitXor (p * reduction) (q * reduction)
 carry-sum zero zero h k = refl
 carry-sum zero (suc zero) h k = refl
 carry-sum (suc zero) zero h k = refl
@@ -38,8 +38,8 @@ xtime-sum : (x y : ℕ) → x < 256 → y < 256 → xtime (bitXor x y) ≡ bitXo
 xtime-sum x y h k =
     ap₂ (λ (l c : ℕ). bitXor l c)
     (ap (λ (n : ℕ). n % 256) (doubled x y) ∙ xor-mod (x * 2) (y * 2) 8)
-    (ap (λ (n : ℕ). n * 27) (xor-shr x y 7) ∙ carry-sum (x / 128) (y / 128) (omega arith) (omega arith))
-    ∙ xor-exchange (x * 2 % 256) (y * 2 % 256) (x / 128 * 27) (y / 128 * 27)
+    (ap (λ (n : ℕ). n * reduction) (xor-shr x y 7) ∙ carry-sum (x / 128) (y / 128) (omega arith) (omega arith))
+    ∙ xor-exchange (x * 2 % 256) (y * 2 % 256) (x / 128 * reduction) (y / 128 * reduction)
   where
     doubled : (x y : ℕ) → bitXor x y * 2 ≡ bitXor (x * 2) (y * 2)
     doubled x y =

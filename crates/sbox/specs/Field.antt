@@ -3,9 +3,13 @@
 use Prim.Native.Nat.{ℕ, zero, suc, _*_, _/_, _%_}
 use lib.Bits.{bitXor}
 
--- 4.2: a byte times x, {02}; 27 is {1b}, what x^8 leaves
+-- what x^8 leaves: x^4 + x^3 + x + 1
+abbrev pub reduction : ℕ
+reduction = 0x1b
+
+-- 4.2: a byte times x, {02}
 abbrev pub xtime : ℕ → ℕ
-xtime b = bitXor (b * 2 % 256) (b / 128 * 27)
+xtime b = bitXor (b * 2 % 256) (b / 128 * reduction)
 
 -- a sum with b where the digit is not 0
 abbrev pub plus : ℕ → ℕ → ℕ → ℕ

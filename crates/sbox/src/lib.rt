@@ -7,6 +7,7 @@ ghost use mathlib.Core.List.{map};
 ghost use Rattle.block.specs.Tab.{byte};
 ghost use Rattle.sbox.specs.Sub.{sub, invSub, subBytes, invSubBytes, subWord, lookedUp};
 
+// The two tables, a file each.
 mod inverse_table;
 mod table;
 
