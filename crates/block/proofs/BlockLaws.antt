@@ -102,3 +102,54 @@ on-group f n at s s′ h k e =
     (drop-at (take at s ++ j) (drop m s) m l ∙ sym (drop-drop (16 * n) at s))
     ∙ append-assoc (take at s) j (onBlocks (map f) (drop (16 * n) (drop at s)))
     ∙ ap (λ (r : List ℕ). take at s ++ r) (sym (on-many f n (drop at s) (omega (arith, length-drop at s))))
+
+-- ---- splitting a list into its full blocks and the rest, and putting it together again
+
+length-blocks-drop : (n : ℕ) (l : List ℕ) → 16 * suc n ≤ length l → 16 * n ≤ length (drop 16 l)
+length-blocks-drop n l h = omega (arith, length-drop 16 l)
+
+join-blocks-take : (n : ℕ) (l : List ℕ) → 16 * n ≤ length l → join (blocks n l) ++ drop (16 * n) l ≡ l
+unfolding blocks join
+join-blocks-take zero l h = refl
+join-blocks-take (suc n) l h =
+    let m : 16 * suc n ≡ 16 + 16 * n = omega arith in
+    append-assoc (take 16 l) (join (blocks n (drop 16 l))) (drop (16 * suc n) l)
+    ∙ ap (λ (r : List ℕ). take 16 l ++ (join (blocks n (drop 16 l)) ++ r)) (ap (λ (k : ℕ). drop k l) m ∙ sym (drop-drop (16 * n) 16 l))
+    ∙ ap (λ (r : List ℕ). take 16 l ++ r) (join-blocks-take n (drop 16 l) (length-blocks-drop n l h))
+    ∙ take-append-drop 16 l
+
+pub join-blocks : (l : List ℕ) → join (blocks (full l) l) ++ rest l ≡ l
+join-blocks l =
+    let m : full l * 16 ≡ 16 * full l = omega arith in
+    ap (λ (k : ℕ). join (blocks (full l) l) ++ drop k l) m ∙ join-blocks-take (full l) l (omega arith)
+
+pub length-rest : (l : List ℕ) → length (rest l) < 16
+length-rest l = omega (arith, length-drop (full l * 16) l)
+
+-- blocks of 16, put together with a short rest, are what the whole is split into
+abbrev pub Sized : List (List ℕ) → Type 0
+Sized [] = Unit {0}
+Sized (b ∷ bs) = (length b ≡ 16) × Sized bs
+
+pub blocks-join : (bs : List (List ℕ)) (s : List ℕ) → Sized bs → blocks (length bs) (join bs ++ s) ≡ bs
+unfolding blocks join
+blocks-join [] s h = refl
+blocks-join (b ∷ bs) s h =
+    let e : b ++ join bs ++ s ≡ b ++ (join bs ++ s) = append-assoc b (join bs) s in
+    ap₂ (λ (x : List ℕ) (xs : List (List ℕ)). x ∷ xs)
+      (ap (λ (l : List ℕ). take 16 l) e ∙ take-at b (join bs ++ s) 16 (h .0))
+      (ap (λ (l : List ℕ). blocks (length bs) (drop 16 l)) e
+      ∙ ap (blocks (length bs)) (drop-at b (join bs ++ s) 16 (h .0))
+      ∙ blocks-join bs s (h .1))
+
+length-join : (bs : List (List ℕ)) → Sized bs → length (join bs) ≡ length bs * 16
+unfolding join
+length-join [] h = refl
+length-join (b ∷ bs) h = length-append b (join bs) ∙ omega (arith, h .0, length-join bs (h .1))
+
+pub full-join : (bs : List (List ℕ)) (s : List ℕ) → Sized bs → length s < 16 → full (join bs ++ s) ≡ length bs
+full-join bs s h k = omega (arith, length-append (join bs) s, length-join bs h)
+
+pub rest-join : (bs : List (List ℕ)) (s : List ℕ) → Sized bs → length s < 16 → rest (join bs ++ s) ≡ s
+rest-join bs s h k =
+    ap (λ (n : ℕ). drop (n * 16) (join bs ++ s)) (full-join bs s h k) ∙ drop-at (join bs) s (length bs * 16) (length-join bs h)

@@ -1,6 +1,8 @@
 -- The laws that this crate's proofs and those of the layers above cite.
 pub mod TabLaws
+pub mod BytesLaws
 pub mod Table
 pub mod XorLaws
 pub mod BlockLaws
 pub mod ArrayBytes
+pub mod DoubleLaws

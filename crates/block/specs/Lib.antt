@@ -3,3 +3,4 @@ pub mod Tab
 pub mod Bytes
 pub mod Xor
 pub mod Blocks
+pub mod Double

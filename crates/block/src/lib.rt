@@ -8,6 +8,7 @@ ghost use Prim.Native.Nat.{_+_, _≤_};
 ghost use lib.ListN.{length};
 ghost use Rattle.block.specs.Xor.{_⊕_};
 ghost use Rattle.block.specs.Blocks.{blockAt, withBlock};
+ghost use Rattle.block.specs.Double.{carried, double};
 
 // a xor b.
 pub fn xor(a: [u8; 16], b: [u8; 16]) -> [u8; 16]
@@ -46,4 +47,28 @@ pub fn store(s: &mut [u8], at: usize, b: [u8; 16])
         s[at + i] = b[i];
         i += 1;
     }
+}
+
+// Twice the block in the field of 2^128 elements (000, 5.1), byte 0 the low end. Byte i - 1 is carried into byte i, and byte 15 by 87 hex
+// into byte 0.
+pub fn doubled(x: [u8; 16]) -> [u8; 16]
+    ensures { λ r. ⌜ r ≡ double x ⌝ }
+{
+    let mut r = x;
+    let mut c = carry(x[15], 0x87);
+    r[0] = std::num::wrapping_add_u8(x[0], x[0]) ^ c;
+    let mut i = 1;
+    while i < 16 {
+        c = carry(x[i - 1], 1);
+        r[i] = std::num::wrapping_add_u8(x[i], x[i]) + c;
+        i += 1;
+    }
+    r
+}
+
+// x where y is above 127, and else 0.
+fn carry(y: u8, x: u8) -> u8
+    ensures { λ r. ⌜ r ≡ carried y x ⌝ }
+{
+    if y > 127 { x } else { 0 }
 }

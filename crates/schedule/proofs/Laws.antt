@@ -15,6 +15,7 @@ use Rattle.block.specs.Tab.{tab, byte}
 use Rattle.block.specs.Bytes.{Bytes, Block}
 use Rattle.block.specs.Blocks.{blockAt}
 use Rattle.block.specs.Xor.{_⊕_}
+use Rattle.block.proofs.BytesLaws.{bytes-cons, bytes-zeros, bytes-append, bytes-take, bytes-drop}
 use Rattle.block.proofs.Table.{each}
 use Rattle.block.proofs.TabLaws.{getD-tab, tab-ext, tab-eta, bytes-tab}
 use Rattle.block.proofs.XorLaws.{length-⊕, ⊕-tab, bytes-⊕}
@@ -159,32 +160,6 @@ set-up key w v h e f =
     ∙ ap₂ (λ (i j : ℕ). expanded (Nk key) key i ++ replicate j 0) n m)
 
 -- ---- bytes
-
-bytes-cons : {x : ℕ} {l : List ℕ} → x < 256 → Bytes l → Bytes (x ∷ l)
-bytes-cons {x} {l} h b = record { below = go }
-  where
-    go : (i : ℕ) → getD (x ∷ l) i 0 < 256
-    go zero = h
-    go (suc i) = b .below i
-
-bytes-tail : {x : ℕ} {l : List ℕ} → Bytes (x ∷ l) → Bytes l
-bytes-tail b = record { below = λ i. b .below (suc i) }
-
-bytes-zeros : (n : ℕ) → Bytes (replicate n 0)
-bytes-zeros zero = record { below = λ i. lit< tt }
-bytes-zeros (suc n) = bytes-cons (lit< tt) (bytes-zeros n)
-
-pub bytes-append : (a b : List ℕ) → Bytes a → Bytes b → Bytes (a ++ b)
-bytes-append [] b h k = k
-bytes-append (x ∷ a) b h k = bytes-cons (h .below 0) (bytes-append a b (bytes-tail h) k)
-
-pub bytes-take : (n : ℕ) (l : List ℕ) → Bytes l → Bytes (take n l)
-bytes-take zero l b = bytes-zeros 0
-bytes-take (suc n) [] b = b
-bytes-take (suc n) (x ∷ l) b = bytes-cons (b .below 0) (bytes-take n l (bytes-tail b))
-
-pub bytes-drop : (n : ℕ) (l : List ℕ) → Bytes l → Bytes (drop n l)
-bytes-drop n l b = record { below = λ i. subst (λ (x : ℕ). x < 256) (sym (getD-drop n l i 0)) (b .below (n + i)) }
 
 bytes-cond : (t : Bool) {a b : List ℕ} → Bytes a → Bytes b → Bytes (cond t a b)
 bytes-cond true h k = h

@@ -4,8 +4,8 @@ use crate::cipher::{cipher, inv_cipher};
 use crate::field::{inverse, times};
 use crate::schedule::key_expansion;
 use crate::substitution::{INV_S_BOX, S_BOX};
-use crate::{BLOCK_LENGTH, KEY_LENGTH, aes};
-use inputs::{Random, from_hex, lines, nist};
+use crate::{aes, BLOCK_LENGTH, KEY_LENGTH};
+use inputs::{from_hex, lines, nist, Random};
 
 /// One block under a key of any of the standard's sizes.
 fn block(key: &[u8], back: bool, input: &[u8]) -> Vec<u8> {

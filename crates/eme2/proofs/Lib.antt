@@ -1,0 +1,3 @@
+-- What is proved of the wide block.
+pub mod Totals
+pub mod Undo

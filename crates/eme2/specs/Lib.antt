@@ -1,0 +1,5 @@
+-- EME2-AES (000), as 01 scopes it: the wide block over any block permutation.
+pub mod Permutation
+pub mod Wide
+pub mod Edges
+pub mod Examples
