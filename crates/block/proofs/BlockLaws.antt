@@ -137,10 +137,10 @@ blocks-join [] s h = refl
 blocks-join (b ∷ bs) s h =
     let e : b ++ join bs ++ s ≡ b ++ (join bs ++ s) = append-assoc b (join bs) s in
     ap₂ (λ (x : List ℕ) (xs : List (List ℕ)). x ∷ xs)
-      (ap (λ (l : List ℕ). take 16 l) e ∙ take-at b (join bs ++ s) 16 (h .0))
-      (ap (λ (l : List ℕ). blocks (length bs) (drop 16 l)) e
-      ∙ ap (blocks (length bs)) (drop-at b (join bs ++ s) 16 (h .0))
-      ∙ blocks-join bs s (h .1))
+    (ap (λ (l : List ℕ). take 16 l) e ∙ take-at b (join bs ++ s) 16 (h .0))
+    (ap (λ (l : List ℕ). blocks (length bs) (drop 16 l)) e
+    ∙ ap (blocks (length bs)) (drop-at b (join bs ++ s) 16 (h .0))
+    ∙ blocks-join bs s (h .1))
 
 length-join : (bs : List (List ℕ)) → Sized bs → length (join bs) ≡ length bs * 16
 unfolding join

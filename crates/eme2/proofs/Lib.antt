@@ -1,3 +1,6 @@
 -- What is proved of the wide block.
 pub mod Totals
 pub mod Undo
+pub mod Lengths
+pub mod TStarLaws
+pub mod Promise

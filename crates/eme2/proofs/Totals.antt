@@ -41,7 +41,7 @@ unfolding total
 total-twice [] h k = refl
 total-twice {a} (x ∷ xs) h k =
     ap (λ (y : List ℕ). total y xs)
-      (sym (total-add xs (block-⊕ h (k .0)) (k .0) (k .1)) ∙ ap (λ (y : List ℕ). total y xs) (⊕-undo a x))
+    (sym (total-add xs (block-⊕ h (k .0)) (k .0) (k .1)) ∙ ap (λ (y : List ℕ). total y xs) (⊕-undo a x))
     ∙ total-twice xs h (k .1)
 
 pub total-undo : {a t : List ℕ} (xs : List (List ℕ)) → Block a → Block t → AllBlocks xs → total (total a xs ⊕ t) xs ⊕ t ≡ a

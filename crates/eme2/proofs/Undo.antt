@@ -32,13 +32,13 @@ all-sized : (bs : List (List ℕ)) → AllBlocks bs → Sized bs
 all-sized [] k = tt
 all-sized (b ∷ bs) k = (k .0 .size, all-sized bs (k .1))
 
-all-blocks : (n : ℕ) (l : List ℕ) → 16 * n ≤ length l → Bytes l → AllBlocks (blocks n l)
+pub all-blocks : (n : ℕ) (l : List ℕ) → 16 * n ≤ length l → Bytes l → AllBlocks (blocks n l)
 unfolding blocks
 all-blocks zero l h b = tt
 all-blocks (suc n) l h b =
     (record { size = length-take-le 16 l (omega arith); bytes = bytes-take 16 l b }, all-blocks n (drop 16 l) (omega (arith, length-drop 16 l)) (bytes-drop 16 l b))
 
-length-blocks : (n : ℕ) (l : List ℕ) → length (blocks n l) ≡ n
+pub length-blocks : (n : ℕ) (l : List ℕ) → length (blocks n l) ≡ n
 unfolding blocks
 length-blocks zero l = refl
 length-blocks (suc n) l = ap suc (length-blocks n (drop 16 l))
@@ -51,12 +51,12 @@ block-padded (x ∷ s) h k = (block-pad (x ∷ s) h k, tt)
 module _ (f g : List ℕ → List ℕ) (u : Undoes f g) where
   -- ---- the two passes
 
-  block-enter : {L : List ℕ} → Block L → (Ps : List (List ℕ)) → AllBlocks Ps → AllBlocks (enter f L Ps)
+  pub block-enter : {L : List ℕ} → Block L → (Ps : List (List ℕ)) → AllBlocks Ps → AllBlocks (enter f L Ps)
   unfolding enter
   block-enter hL [] k = tt
   block-enter {L} hL (P ∷ Ps) k = (u .keeps (block-⊕ hL (k .0)), block-enter (block-double L) Ps (k .1))
 
-  block-leave : {L : List ℕ} → Block L → (Xs : List (List ℕ)) → AllBlocks Xs → AllBlocks (leave f L Xs)
+  pub block-leave : {L : List ℕ} → Block L → (Xs : List (List ℕ)) → AllBlocks Xs → AllBlocks (leave f L Xs)
   unfolding leave
   block-leave hL [] k = tt
   block-leave {L} hL (X ∷ Xs) k = (block-⊕ (u .keeps (k .0)) hL, block-leave (block-double L) Xs (k .1))
@@ -129,9 +129,10 @@ module _ (f g : List ℕ → List ℕ) (u : Undoes f g) where
   ends : (s : List ℕ) {P : List ℕ} → Block P → (MC1 g (s ⊕ f P) (g (MC1 f s (f P))) ≡ P) × (s ⊕ f P ⊕ g (MC1 f s (f P)) ≡ s)
   unfolding MC1 _⊕_
   ends [] hP = (u .back hP, refl)
-  ends (x ∷ s) {P} hP =
-      (some-short ((x ∷ s) ⊕ f P) (g (f (f P))) (omega (arith, length-⊕ (x ∷ s) (f P))) ∙ ap g (u .back (u .keeps hP)) ∙ u .back hP,
-      ap (λ (z : List ℕ). (x ∷ s) ⊕ f P ⊕ z) (u .back (u .keeps hP)) ∙ ⊕-undo (x ∷ s) (f P))
+  ends (x ∷ s) {P} hP = (
+    some-short ((x ∷ s) ⊕ f P) (g (f (f P))) (omega (arith, length-⊕ (x ∷ s) (f P))) ∙ ap g (u .back (u .keeps hP)) ∙ u .back hP,
+    ap (λ (z : List ℕ). (x ∷ s) ⊕ f P ⊕ z) (u .back (u .keeps hP)) ∙ ⊕-undo (x ∷ s) (f P),
+  )
     where
       some-short : (t y : List ℕ) → 0 < length t → MC1 g t y ≡ g y
       some-short [] y h = absurd (not-suc-le-zero h)
@@ -223,17 +224,17 @@ module _ (f g : List ℕ → List ℕ) (u : Undoes f g) where
         let ls′ : length s′ < 16 = omega (arith, length-Cm hT hX1 Xs hXs s ls bs) in
         let out : List ℕ = join C ++ s′ in
         ap₂ (λ (bs : List (List ℕ)) (t : List ℕ). wideOn g L T (enter g L bs) t)
-          (ap (λ (n : ℕ). blocks n out) (full-join C s′ hC ls′) ∙ blocks-join C s′ hC)
-          (rest-join C s′ hC ls′)
+        (ap (λ (n : ℕ). blocks n out) (full-join C s′ hC ls′) ∙ blocks-join C s′ hC)
+        (rest-join C s′ hC ls′)
         ∙ ap (λ (bs : List (List ℕ)). wideOn g L T bs s′) (enter-leave hL (Y1 ∷ Ys) hY)
         ∙ ap₂ (λ (bs : List (List ℕ)) (t : List ℕ). join (leave g L bs) ++ t)
-          (ap₂ (λ (x : List ℕ) (xs : List (List ℕ)). x ∷ xs) (CCC1-back hT hX1 Xs hXs s ls bs) (CCCs-back hT hX1 Xs hXs s ls bs))
-          (Cm-back hT hX1 Xs hXs s ls bs)
+        (ap₂ (λ (x : List ℕ) (xs : List (List ℕ)). x ∷ xs) (CCC1-back hT hX1 Xs hXs s ls bs) (CCCs-back hT hX1 Xs hXs s ls bs))
+        (Cm-back hT hX1 Xs hXs s ls bs)
         ∙ ap (λ (bs : List (List ℕ)). join bs ++ s) (leave-enter hL (P1 ∷ Ps) k)
 
     pub wide-undone : (P : List ℕ) → 16 ≤ length P → Bytes P → wide g L T (wide f L T P) ≡ P
     unfolding wide
     wide-undone P h b =
         on-blocks (blocks (full P) P) (all-blocks (full P) P (omega arith) b) (omega (arith, length-blocks (full P) P)) (rest P) (length-rest P)
-          (bytes-drop (full P * 16) P b)
+        (bytes-drop (full P * 16) P b)
         ∙ join-blocks P

@@ -1,5 +1,5 @@
 -- The wide block over a small permutation, against what the second implementation (host/rust, written apart from document 000) makes of
--- the same input: one block, a short last block, full blocks, and a new mask at block 129, with and without a short block after it.
+-- the same input: one block, a short last block, full blocks, and a new mask at block 129, with and without a short block after it; and T_star.
 -- Assumes nothing.
 use mathlib.Core.Path.{_≡_, refl}
 use mathlib.Core.List.{List, [], _∷_, _++_}
@@ -10,6 +10,7 @@ use Rattle.block.specs.Tab.{tab, byte}
 use Rattle.block.specs.Xor.{_⊕_}
 use Rattle.block.specs.Blocks.{blocks, join}
 use Rattle.block.specs.Double.{double, pad}
+use Rattle.eme2.specs.TStar.{TTs, doubles, shortTT, sum, someTStar, tStar, eme2TStar}
 use Rattle.eme2.specs.Wide.{enter, leave, total, padded, middle, MP, MC1, Cm, CCCs, CCC1, wideOn, wide}
 
 -- each byte moved down by one place and xored with its own number
@@ -48,3 +49,35 @@ new-mask = refl
 new-mask-and-short : drop 2051 (wide toy L T (message 2084)) ≡ 192 ∷ 190 ∷ 44 ∷ 145 ∷ 166 ∷ 102 ∷ 14 ∷ 178 ∷ 22 ∷ 135 ∷ 28 ∷ 129 ∷ 45 ∷ 208 ∷ 156 ∷ 109 ∷ 77 ∷ 13 ∷ 54 ∷ 60 ∷ 124 ∷ 16 ∷ 183 ∷ 166 ∷ 168 ∷ 102 ∷ 14 ∷ 68 ∷ 133 ∷ 137 ∷ 10 ∷ 168 ∷ 43 ∷ []
 unfolding toy L T message _⊕_ blocks join double pad enter leave total padded middle MP MC1 Cm CCCs CCC1 wideOn wide
 new-mask-and-short = refl
+
+-- ---- T_star, against a computation apart
+
+Key3 : List ℕ
+Key3 = tab 16 (λ i. (33 + 25 * i) % 256)
+
+data-of : ℕ → List ℕ
+data-of n = tab n (λ i. (i * 7 + 2) % 256)
+
+no-data : eme2TStar toy Key3 (data-of 0) ≡ 57 ∷ 71 ∷ 73 ∷ 179 ∷ 217 ∷ 239 ∷ 185 ∷ 147 ∷ 137 ∷ 135 ∷ 153 ∷ 243 ∷ 169 ∷ 159 ∷ 105 ∷ 35 ∷ []
+unfolding toy Key3 data-of _⊕_ blocks double pad total TTs doubles shortTT sum someTStar tStar
+no-data = refl
+
+short-data : eme2TStar toy Key3 (data-of 5) ≡ 105 ∷ 161 ∷ 207 ∷ 140 ∷ 168 ∷ 252 ∷ 245 ∷ 159 ∷ 39 ∷ 251 ∷ 17 ∷ 90 ∷ 98 ∷ 132 ∷ 109 ∷ 235 ∷ []
+unfolding toy Key3 data-of _⊕_ blocks double pad total TTs doubles shortTT sum someTStar tStar
+short-data = refl
+
+one-block-of-data : eme2TStar toy Key3 (data-of 16) ≡ 187 ∷ 214 ∷ 76 ∷ 250 ∷ 85 ∷ 38 ∷ 148 ∷ 50 ∷ 28 ∷ 231 ∷ 188 ∷ 26 ∷ 196 ∷ 182 ∷ 84 ∷ 245 ∷ []
+unfolding toy Key3 data-of _⊕_ blocks double pad total TTs doubles shortTT sum someTStar tStar
+one-block-of-data = refl
+
+data-and-short : eme2TStar toy Key3 (data-of 20) ≡ 6 ∷ 8 ∷ 21 ∷ 5 ∷ 205 ∷ 54 ∷ 196 ∷ 131 ∷ 206 ∷ 180 ∷ 105 ∷ 109 ∷ 80 ∷ 159 ∷ 157 ∷ 82 ∷ []
+unfolding toy Key3 data-of _⊕_ blocks double pad total TTs doubles shortTT sum someTStar tStar
+data-and-short = refl
+
+two-blocks-of-data : eme2TStar toy Key3 (data-of 32) ≡ 162 ∷ 231 ∷ 19 ∷ 230 ∷ 232 ∷ 70 ∷ 194 ∷ 7 ∷ 138 ∷ 164 ∷ 18 ∷ 134 ∷ 107 ∷ 230 ∷ 226 ∷ 110 ∷ []
+unfolding toy Key3 data-of _⊕_ blocks double pad total TTs doubles shortTT sum someTStar tStar
+two-blocks-of-data = refl
+
+two-blocks-and-short : eme2TStar toy Key3 (data-of 37) ≡ 65 ∷ 150 ∷ 55 ∷ 189 ∷ 145 ∷ 143 ∷ 217 ∷ 235 ∷ 178 ∷ 166 ∷ 78 ∷ 170 ∷ 19 ∷ 148 ∷ 98 ∷ 166 ∷ []
+unfolding toy Key3 data-of _⊕_ blocks double pad total TTs doubles shortTT sum someTStar tStar
+two-blocks-and-short = refl

@@ -43,11 +43,12 @@ unfolding double
 loop-holds c =
     let x = c .before .before .args .t1 in
     let l : length x ≡ 16 = array-block x _ (c .before .before .good .0) .size in
-    let v = bitXor (c .wrapping-add-u8 .result) (c .before .carry .result) in
-    (omega arith,
-    omega arith,
-    l,
-    fill-turn (double x) x 0 v (omega arith) (omega arith) (ap₂ (λ (a b : ℕ). bitXor a b) (c .wrapping-add-u8 .ensures) (c .before .carry .ensures)))
+    let v = bitXor (c .wrapping-add-u8 .result) (c .before .carry .result) in (
+      omega arith,
+      omega arith,
+      l,
+      fill-turn (double x) x 0 v (omega arith) (omega arith) (ap₂ (λ (a b : ℕ). bitXor a b) (c .wrapping-add-u8 .ensures) (c .before .carry .ensures)),
+    )
 
 sub-carry : tie.Need-sub-carry Inv-loop μ-loop
 sub-carry c = omega arith
@@ -89,13 +90,14 @@ loop-again c =
     let x = k .before .before .before .args .t1 in
     let i = k .loop .i in
     let l : length x ≡ 16 = k .loop .inv .2 in
-    let v = c .wrapping-add-u82 .result + c .before .carry2 .result in
-    (omega arith,
-    omega arith,
-    l,
-    ap (λ (r : List ℕ). set r i v) (k .loop .inv .3)
-    ∙ fill-turn (double x) x i v (omega (arith, length-double x)) (omega arith)
-      (ap₂ (λ (a b : ℕ). a + b) (c .wrapping-add-u82 .ensures) (c .before .carry2 .ensures) ∙ sym (double-at x i (omega arith) (omega arith))))
+    let v = c .wrapping-add-u82 .result + c .before .carry2 .result in (
+      omega arith,
+      omega arith,
+      l,
+      ap (λ (r : List ℕ). set r i v) (k .loop .inv .3)
+          ∙ fill-turn (double x) x i v (omega (arith, length-double x)) (omega arith)
+          (ap₂ (λ (a b : ℕ). a + b) (c .wrapping-add-u82 .ensures) (c .before .carry2 .ensures) ∙ sym (double-at x i (omega arith) (omega arith))),
+    )
 
 returns : tie.Need-returns Inv-loop μ-loop
 returns c =

@@ -1,0 +1,101 @@
+-- What is proved of the transform for every key, associated data and message, refused or not: the length is kept, and each direction
+-- undoes the other.
+-- Assumes nothing.
+use mathlib.Core.Path.{_≡_, refl, sym, ap, _∙_}
+use mathlib.Core.Bool.{Bool, true, false, cond, not, _||_}
+use mathlib.Core.List.{List}
+use Prim.Native.Nat.{ℕ, _-_, _≤_}
+use native.Mathlib.Omega.{arith}
+use borrow.Author.Tests.{ltb-false, eqb-true}
+use lib.Dec.{eqb, ltb}
+use lib.ListN.{length, take, drop, length-drop}
+use lib.Seq.{length-take-le}
+use Rattle.block.specs.Bytes.{Bytes, Block}
+use Rattle.block.proofs.BytesLaws.{bytes-take, bytes-drop}
+use Rattle.schedule.specs.Size.{keySize}
+use Rattle.schedule.proofs.Laws.{key-sizes}
+use Rattle.aes.specs.Aes.{aes}
+use Rattle.aes.specs.Promise.{aes-block, aes-undone}
+use Rattle.eme2.specs.Permutation.{Undoes}
+use Rattle.eme2.specs.TStar.{eme2TStar}
+use Rattle.eme2.specs.Transform.{Key1, Key2, Key3, number, eme2, afterwards}
+use Rattle.eme2.proofs.Undo.{wide-undone}
+use Rattle.eme2.proofs.Lengths.{length-wide}
+use Rattle.eme2.proofs.TStarLaws.{block-tStar}
+
+-- what the ladder says where it lets a call through
+through : (a b c : Bool) → _≡_ {A = ℕ} (cond (not a) 1 (cond b 2 (cond c 3 0))) 0 → (a ≡ true) × (b ≡ false)
+through true false c e = (refl, refl)
+through true true c e = let z : ⊥ = omega arith in absurd z
+through false b c e = let z : ⊥ = omega arith in absurd z
+
+neither : (a b : Bool) → a || b ≡ false → a ≡ false
+neither false b e = refl
+neither true b e = e
+
+module _ (k ad m : List ℕ) (bk : Bytes k) (bad : Bytes ad) (bm : Bytes m) (e : number k ad m ≡ 0) where
+  tests : (keySize (length k - 32) ≡ true) × ((ltb (length m) 16 || ltb 65536 (length m)) ≡ false)
+  unfolding number
+  tests = through (keySize (length k - 32)) (ltb (length m) 16 || ltb 65536 (length m)) (ltb 1024 (length ad)) e
+
+  long : 16 ≤ length m
+  long = ltb-false (length m) 16 (neither (ltb (length m) 16) (ltb 65536 (length m)) (tests .1))
+
+  key-long : 48 ≤ length k
+  key-long = omega (arith, key-sizes (length k - 32) (tests .0))
+
+  size : keySize (length (Key1 k)) ≡ true
+  size = ap keySize (length-take-le (length k - 32) k (omega arith)) ∙ tests .0
+
+  bytes1 : Bytes (Key1 k)
+  bytes1 = bytes-take (length k - 32) k bk
+
+  block2 : Block (Key2 k)
+  block2 =
+      record {
+        size = length-take-le 16 (drop (length k - 32) k) (omega (arith, key-long, length-drop (length k - 32) k));
+        bytes = bytes-take 16 (drop (length k - 32) k) (bytes-drop (length k - 32) k bk);
+      }
+
+  block3 : Block (Key3 k)
+  block3 = record { size = length-drop (length k - 16) k ∙ omega (arith, key-long); bytes = bytes-drop (length k - 16) k bk }
+
+  undoes : (back : Bool) → Undoes (aes back (Key1 k)) (aes (not back) (Key1 k))
+  undoes back = record { keeps = λ {b} h. aes-block (Key1 k) size bytes1 back h; back = λ {b} h. aes-undone (Key1 k) size bytes1 back h }
+
+  star : Block (eme2TStar (aes false (Key1 k)) (Key3 k) ad)
+  star = block-tStar (aes false (Key1 k)) (aes true (Key1 k)) (undoes false) block3 ad bad
+
+  length-eme2 : (back : Bool) → length (eme2 back k ad m) ≡ length m
+  unfolding eme2
+  length-eme2 back = length-wide (aes back (Key1 k)) (aes (not back) (Key1 k)) (undoes back) block2 star m long bm
+
+  eme2-undone : (back : Bool) → eme2 (not back) k ad (eme2 back k ad m) ≡ m
+  unfolding eme2
+  eme2-undone back = wide-undone (aes back (Key1 k)) (aes (not back) (Key1 k)) (undoes back) block2 star m long bm
+
+-- the number goes by the length of the message alone
+number-length : (k ad m m′ : List ℕ) → length m′ ≡ length m → number k ad m′ ≡ number k ad m
+unfolding number
+number-length k ad m m′ e =
+    ap (λ (n : ℕ). cond (not (keySize (length k - 32))) 1 (cond (ltb n 16 || ltb 65536 n) 2 (cond (ltb 1024 (length ad)) 3 0))) e
+
+module _ (back : Bool) (k ad m : List ℕ) (bk : Bytes k) (bad : Bytes ad) (bm : Bytes m) where
+  -- refused or not
+  both : (t : Bool) → eqb (number k ad m) 0 ≡ t
+      → (length (cond t (eme2 back k ad m) m) ≡ length m) × (afterwards (not back) k ad (cond t (eme2 back k ad m) m) ≡ m)
+  unfolding afterwards
+  both true e =
+      let n : number k ad m ≡ 0 = eqb-true (number k ad m) 0 e in
+      let c : List ℕ = eme2 back k ad m in
+      let l : length c ≡ length m = length-eme2 k ad m bk bad bm n back in
+      (l, ap (λ (x : ℕ). cond (eqb x 0) (eme2 (not back) k ad c) c) (number-length k ad m c l ∙ n) ∙ eme2-undone k ad m bk bad bm n back)
+  both false e = (refl, ap (λ (t : Bool). cond t (eme2 (not back) k ad m) m) e)
+
+  pub length-kept : length (afterwards back k ad m) ≡ length m
+  unfolding afterwards
+  length-kept = both (eqb (number k ad m) 0) refl .0
+
+  pub undone : afterwards (not back) k ad (afterwards back k ad m) ≡ m
+  unfolding afterwards
+  undone = both (eqb (number k ad m) 0) refl .1
