@@ -1,7 +1,7 @@
 // Up to sixteen blocks at once, in planes (crate `planes`).
 ghost use mathlib.Core.Path.{_≡_};
 ghost use mathlib.Core.List.{_++_, map};
-ghost use Prim.Native.Nat.{_+_, _*_, _/_, _≤_, _<_, min};
+ghost use Prim.Native.Nat.{_+_, _*_, _≤_, _<_, min};
 ghost use lib.ListN.{length, take, drop};
 ghost use Rattle.block.specs.Blocks.{blocks, join, onBlocks};
 ghost use Rattle.planes.specs.Lanes.{Lanewise};
@@ -24,7 +24,7 @@ pub fn together(back: bool, w: [[u8; 16]; 15], nr: usize, s: &mut [u8]) -> usize
 
 // n, or 16 where that is less.
 fn at_most_sixteen(n: usize) -> usize
-    ensures { λ r. ⌜ (r ≤ n) × (r ≤ 16) × (min n 16 ≤ r) ⌝ }
+    ensures { λ r. ⌜ r ≡ min n 16 ⌝ }
 {
     if n < 16 { n } else { 16 }
 }
