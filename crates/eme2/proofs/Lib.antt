@@ -3,4 +3,5 @@ pub mod Totals
 pub mod Undo
 pub mod Lengths
 pub mod TStarLaws
+pub mod PassLaws
 pub mod Promise
