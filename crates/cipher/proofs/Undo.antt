@@ -6,10 +6,10 @@ use mathlib.Core.List.{List, []}
 use Prim.Native.Nat.{ℕ, zero, suc, _-_, _≤_, _<_}
 use native.Mathlib.Nat.{le-trans, le-suc}
 use native.Mathlib.Omega.{arith}
-use lib.ListN.{getD}
+use lib.ListN.{length, getD}
 use Rattle.block.specs.Xor.{_⊕_}
 use Rattle.block.specs.Bytes.{Block}
-use Rattle.block.proofs.XorLaws.{⊕-undo, block-⊕}
+use Rattle.block.proofs.XorLaws.{length-⊕, ⊕-undo, block-⊕}
 use Rattle.sbox.specs.Sub.{subBytes, invSubBytes}
 use Rattle.sbox.proofs.SubLaws.{block-subBytes, block-invSubBytes, invSubBytes-subBytes, subBytes-invSubBytes}
 use Rattle.rounds.specs.Steps.{shiftRows, invShiftRows, mixColumns, invMixColumns}
@@ -93,3 +93,15 @@ crypted-undone false w nr ks {b} h =
 crypted-undone true w nr ks {b} h =
     ap (λ (s : List ℕ). s ⊕ key w nr) (through-back w (nr - 1) (λ i l. ks i (omega arith)) (block-⊕ h (ks nr (omega arith))))
     ∙ ⊕-undo b (key w nr)
+
+-- ---- the length, whatever the round keys and the block
+
+length-inverseFrom : (w : List (List ℕ)) (j : ℕ) (s : List ℕ) → length (inverseFrom w j s) ≡ 16
+unfolding inverseFrom invSubBytes
+length-inverseFrom w zero s = length-⊕ (invSubBytes (invShiftRows s)) (key w 0)
+length-inverseFrom w (suc j) s = length-inverseFrom w j (invMixColumns (invSubBytes (invShiftRows s) ⊕ key w (suc j)))
+
+pub length-crypted : (back : Bool) (w : List (List ℕ)) (nr : ℕ) (b : List ℕ) → length (crypted back w nr b) ≡ 16
+unfolding cipher invCipher shiftRows
+length-crypted false w nr b = length-⊕ (shiftRows (subBytes (throughRounds w (nr - 1) (b ⊕ key w 0)))) (key w nr)
+length-crypted true w nr b = length-inverseFrom w (nr - 1) (b ⊕ key w nr)

@@ -4,4 +4,6 @@ pub mod Undo
 pub mod Lengths
 pub mod TStarLaws
 pub mod PassLaws
+pub mod PadLaws
+pub mod AssociatedLaws
 pub mod Promise
