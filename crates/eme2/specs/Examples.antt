@@ -50,7 +50,7 @@ new-mask-and-short : drop 2051 (wide toy L T (message 2084)) ≡ 192 ∷ 190 ∷
 unfolding toy L T message _⊕_ blocks join double pad enter leave total padded middle MP MC1 Cm CCCs CCC1 wideOn wide
 new-mask-and-short = refl
 
--- ---- T_star, against a computation apart
+-- ---- T_star, against the same
 
 Key3 : List ℕ
 Key3 = tab 16 (λ i. (33 + 25 * i) % 256)

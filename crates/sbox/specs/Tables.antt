@@ -1,4 +1,5 @@
--- FIPS 197, 5.1.1 and 5.3.2: the substitution table and its inverse, as printed there.
+-- FIPS 197, 5.1.1 and 5.3.2: the substitution table and its inverse. They were written out from the rule, which
+-- `Rule` shows of every entry; published answers (`kat`) confirm them.
 -- Assumes nothing.
 use mathlib.Core.List.{List, [], _∷_}
 use Prim.Native.Nat.{ℕ}
