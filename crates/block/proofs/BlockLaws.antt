@@ -142,7 +142,7 @@ blocks-join (b ∷ bs) s h =
     ∙ ap (blocks (length bs)) (drop-at b (join bs ++ s) 16 (h .0))
     ∙ blocks-join bs s (h .1))
 
-length-join : (bs : List (List ℕ)) → Sized bs → length (join bs) ≡ length bs * 16
+pub length-join : (bs : List (List ℕ)) → Sized bs → length (join bs) ≡ length bs * 16
 unfolding join
 length-join [] h = refl
 length-join (b ∷ bs) h = length-append b (join bs) ∙ omega (arith, h .0, length-join bs (h .1))

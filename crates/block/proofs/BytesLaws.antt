@@ -1,11 +1,12 @@
 -- Lists of bytes, put together and taken apart.
 -- Assumes nothing.
-use mathlib.Core.Path.{_≡_, sym, subst}
+use mathlib.Core.Path.{_≡_, sym, ap, _∙_, subst}
 use mathlib.Core.List.{List, [], _∷_, _++_}
-use Prim.Native.Nat.{ℕ, zero, suc, _+_, _<_}
+use Prim.Native.Nat.{ℕ, zero, suc, _+_, _-_, _≤_, _<_}
+use native.Mathlib.Omega.{arith}
 use lib.Dec.{lit<}
-use lib.ListN.{getD, take, drop, replicate}
-use lib.Seq.{getD-drop}
+use lib.ListN.{getD, take, drop, replicate, length-replicate, replicate-append-replicate}
+use lib.Seq.{getD-drop, drop-at}
 use Rattle.block.specs.Bytes.{Bytes}
 
 pub bytes-cons : {x : ℕ} {l : List ℕ} → x < 256 → Bytes l → Bytes (x ∷ l)
@@ -33,3 +34,10 @@ bytes-take (suc n) (x ∷ l) b = bytes-cons (b .below 0) (bytes-take n l (bytes-
 
 pub bytes-drop : (n : ℕ) (l : List ℕ) → Bytes l → Bytes (drop n l)
 bytes-drop n l b = record { below = λ i. subst (λ (x : ℕ). x < 256) (sym (getD-drop n l i 0)) (b .below (n + i)) }
+
+-- fewer of the same
+pub drop-replicate : (m n x : ℕ) → m ≤ n → drop m (replicate n x) ≡ replicate (n - m) x
+drop-replicate m n x h =
+    let e : m + (n - m) ≡ n = omega arith in
+    ap (λ (l : List ℕ). drop m l) (ap (λ (k : ℕ). replicate k x) (sym e) ∙ sym (replicate-append-replicate m (n - m) x))
+    ∙ drop-at (replicate m x) (replicate (n - m) x) m (length-replicate m x)

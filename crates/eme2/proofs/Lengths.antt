@@ -12,13 +12,13 @@ use Rattle.block.specs.Blocks.{full, rest, blocks, join}
 use Rattle.block.specs.Double.{double, pad}
 use Rattle.block.proofs.XorLaws.{block-⊕}
 use Rattle.block.proofs.BytesLaws.{bytes-append, bytes-drop, bytes-zeros}
-use Rattle.block.proofs.BlockLaws.{length-rest}
+use Rattle.block.proofs.BlockLaws.{length-rest, length-join}
 use Rattle.block.proofs.DoubleLaws.{block-double, block-pad}
 use Rattle.eme2.specs.Permutation.{Undoes}
 use Rattle.eme2.specs.Wide.{enter, leave, middle, Cm, CCCs, CCC1, wideOn, wide}
 use Rattle.eme2.specs.TStar.{TTs, doubles, shortTT, sum, someTStar, tStar, eme2TStar}
 use Rattle.eme2.proofs.Totals.{AllBlocks, all-append, block-total}
-use Rattle.eme2.proofs.Undo.{all-blocks, length-blocks, block-enter, block-leave, block-CCC1, block-CCCs, length-Cm, bytes-Cm}
+use Rattle.eme2.proofs.Undo.{all-sized, all-blocks, length-blocks, block-enter, block-leave, block-CCC1, block-CCCs, length-Cm, bytes-Cm}
 
 length-enter : (f : List ℕ → List ℕ) (L : List ℕ) (Ps : List (List ℕ)) → length (enter f L Ps) ≡ length Ps
 unfolding enter
@@ -36,11 +36,6 @@ length-middle f M1 i M [] = refl
 length-middle f M1 i M (X ∷ Xs) = ap suc (length-middle f M1 (suc i) _ Xs)
 
 -- blocks put together
-length-joined : (bs : List (List ℕ)) → AllBlocks bs → length (join bs) ≡ length bs * 16
-unfolding join
-length-joined [] k = refl
-length-joined (b ∷ bs) k = length-append b (join bs) ∙ omega (arith, k .0 .size, length-joined bs (k .1))
-
 bytes-joined : (bs : List (List ℕ)) → AllBlocks bs → Bytes (join bs)
 unfolding join
 bytes-joined [] k = bytes-zeros 0
@@ -58,7 +53,7 @@ module _ (f g : List ℕ → List ℕ) (u : Undoes f g) {L T : List ℕ} (hL : B
       let hC : AllBlocks C = block-leave f g u hL Y hY in
       let n : length (CCCs f T X1 Xs s) ≡ length Xs = length-middle f _ 2 _ Xs in (
         length-append (join C) (Cm f T X1 Xs s)
-            ∙ omega (arith, length-joined C hC, length-leave f L Y, n, length-Cm f g u hT (k .0) Xs (k .1) s ls bs),
+            ∙ omega (arith, length-join C (all-sized C hC), length-leave f L Y, n, length-Cm f g u hT (k .0) Xs (k .1) s ls bs),
         bytes-append (join C) (Cm f T X1 Xs s) (bytes-joined C hC) (bytes-Cm f g u hT (k .0) Xs (k .1) s ls bs),
       )
 

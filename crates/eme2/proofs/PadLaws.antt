@@ -2,19 +2,12 @@
 -- Assumes nothing.
 use mathlib.Core.Path.{_≡_, refl, sym, ap, _∙_}
 use mathlib.Core.List.{List, [], _∷_, _++_}
-use Prim.Native.Nat.{ℕ, zero, suc, _+_, _-_, _≤_, _<_}
-use native.Mathlib.Nat.{not-suc-le-zero, le-of-suc-le-suc}
+use Prim.Native.Nat.{ℕ, _+_, _-_, _<_}
 use native.Mathlib.Omega.{arith}
 use lib.ListN.{length, getD, take, drop, replicate, List·getD-append, take-append-drop}
 use lib.Seq.{getD-append-seam, drop-append-add}
 use Rattle.block.specs.Double.{pad}
-
-drop-zeros : (m n : ℕ) → m ≤ n → drop m (replicate {A = ℕ} n 0) ≡ replicate (n - m) 0
-drop-zeros zero n h = let e : n ≡ n - 0 = omega arith in ap (λ (k : ℕ). replicate {A = ℕ} k 0) e
-drop-zeros (suc m) zero h = absurd (not-suc-le-zero h)
-drop-zeros (suc m) (suc n) h =
-    let e : n - m ≡ suc n - suc m = omega arith in
-    drop-zeros m n (le-of-suc-le-suc h) ∙ ap (λ (k : ℕ). replicate {A = ℕ} k 0) e
+use Rattle.block.proofs.BytesLaws.{drop-replicate}
 
 pub pad-at : (b : List ℕ) (i : ℕ) → i < length b → getD (pad b) i 0 ≡ getD b i 0
 unfolding pad
@@ -30,7 +23,7 @@ unfolding pad
 pad-done b h =
     let e : 16 - (length b + 1) ≡ 15 - length b = omega arith in
     ap (λ (t : List ℕ). take (length b + 1) (pad b) ++ t)
-    (drop-zeros (length b + 1) 16 (omega arith)
+    (drop-replicate (length b + 1) 16 0 (omega arith)
     ∙ ap (λ (k : ℕ). replicate {A = ℕ} k 0) e
     ∙ sym (drop-append-add b (0x80 ∷ replicate (15 - length b) 0) 1))
     ∙ take-append-drop (length b + 1) (pad b)

@@ -28,7 +28,7 @@ around {L} {X} hL hX = ⊕-comm L (X ⊕ L) (hL .size ∙ sym (length-⊕ X L �
 between : {L P : List ℕ} → Block L → Block P → L ⊕ P ⊕ L ≡ P
 between {L} {P} hL hP = ap (λ (x : List ℕ). x ⊕ L) (⊕-comm L P (hL .size ∙ sym (hP .size))) ∙ ⊕-undo P L
 
-all-sized : (bs : List (List ℕ)) → AllBlocks bs → Sized bs
+pub all-sized : (bs : List (List ℕ)) → AllBlocks bs → Sized bs
 all-sized [] k = tt
 all-sized (b ∷ bs) k = (k .0 .size, all-sized bs (k .1))
 

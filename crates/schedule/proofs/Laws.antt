@@ -15,7 +15,7 @@ use Rattle.block.specs.Tab.{tab, byte}
 use Rattle.block.specs.Bytes.{Bytes, Block}
 use Rattle.block.specs.Blocks.{blockAt}
 use Rattle.block.specs.Xor.{_⊕_}
-use Rattle.block.proofs.BytesLaws.{bytes-cons, bytes-zeros, bytes-append, bytes-take, bytes-drop}
+use Rattle.block.proofs.BytesLaws.{drop-replicate, bytes-cons, bytes-zeros, bytes-append, bytes-take, bytes-drop}
 use Rattle.block.proofs.Table.{each}
 use Rattle.block.proofs.TabLaws.{getD-tab, tab-ext, tab-eta, bytes-tab}
 use Rattle.block.proofs.XorLaws.{length-⊕, ⊕-tab, bytes-⊕}
@@ -131,12 +131,6 @@ drop-past p z m h =
     ∙ drop-append-add p (drop (length p) z) (m - length p)
     ∙ drop-drop (m - length p) (length p) z
     ∙ ap (λ (n : ℕ). drop n z) e
-
-drop-replicate : (m n x : ℕ) → m ≤ n → drop m (replicate n x) ≡ replicate (n - m) x
-drop-replicate m n x h =
-    let e : m + (n - m) ≡ n = omega arith in
-    ap (λ (l : List ℕ). drop m l) (ap (λ (k : ℕ). replicate k x) (sym e) ∙ sym (replicate-append-replicate m (n - m) x))
-    ∙ drop-at (replicate m x) (replicate (n - m) x) m (length-replicate m x)
 
 -- the bytes that the round keys are read from
 abbrev padded : List ℕ → List ℕ
