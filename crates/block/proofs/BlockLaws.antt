@@ -41,20 +41,30 @@ pub length-withBlock : (s : List ℕ) (at : ℕ) (b : List ℕ) → at + 16 ≤ 
 length-withBlock s at b h k =
     simp (length-append, length-drop) (omega (arith, length-take-le at s (omega arith)))
 
+-- ---- the first block apart
+
+pub first-block : (s : List ℕ) → 16 ≤ length s → blocks (full s) s ≡ take 16 s ∷ blocks (full (drop 16 s)) (drop 16 s)
+unfolding blocks
+first-block s h =
+    let n : full s ≡ suc (full (drop 16 s)) = omega (arith, ap (λ (m : ℕ). m / 16) (length-drop 16 s)) in
+    ap (λ (k : ℕ). blocks k s) n
+
+pub first-rest : (s : List ℕ) → 16 ≤ length s → rest s ≡ rest (drop 16 s)
+first-rest s h =
+    let m : 16 + full (drop 16 s) * 16 ≡ full s * 16 = omega (arith, ap (λ (m : ℕ). m / 16) (length-drop 16 s)) in
+    sym (drop-drop (full (drop 16 s) * 16) 16 s ∙ ap (λ (j : ℕ). drop j s) m)
+
 -- ---- all full blocks, in a loop that goes through them: what is done, and what is left, is the whole
 
 -- the first block apart: y is what k makes of it, and k′ goes on with the others
 on-cons : (k k′ : List (List ℕ) → List (List ℕ)) (d y : List ℕ) → 16 ≤ length d → ((xs : List (List ℕ)) → k (take 16 d ∷ xs) ≡ y ∷ k′ xs)
     → onBlocks k d ≡ y ++ onBlocks k′ (drop 16 d)
-unfolding onBlocks blocks join
+unfolding onBlocks join
 on-cons k k′ d y h e =
-    let n : full d ≡ suc (full (drop 16 d)) = omega (arith, ap (λ (m : ℕ). m / 16) (length-drop 16 d)) in
-    let m : 16 + full (drop 16 d) * 16 ≡ full d * 16 = omega arith in
-    ap (λ (f : ℕ). join (k (blocks f d)) ++ rest d) n
-    ∙ ap (λ (bs : List (List ℕ)). join bs ++ rest d) (e (blocks (full (drop 16 d)) (drop 16 d)))
-    ∙ append-assoc y (join (k′ (blocks (full (drop 16 d)) (drop 16 d)))) (rest d)
-    ∙ ap (λ (r : List ℕ). y ++ (join (k′ (blocks (full (drop 16 d)) (drop 16 d))) ++ r))
-    (sym (drop-drop (full (drop 16 d) * 16) 16 d ∙ ap (λ (j : ℕ). drop j d) m))
+    let bs : List (List ℕ) = blocks (full (drop 16 d)) (drop 16 d) in
+    ap₂ (λ (xs : List (List ℕ)) (r : List ℕ). join (k xs) ++ r) (first-block d h) (first-rest d h)
+    ∙ ap (λ (xs : List (List ℕ)). join xs ++ rest (drop 16 d)) (e bs)
+    ∙ append-assoc y (join (k′ bs)) (rest (drop 16 d))
 
 pub on-turn : (k k′ : List (List ℕ) → List (List ℕ)) (at : ℕ) (s y : List ℕ) → at + 16 ≤ length s → length y ≡ 16
     → ((xs : List (List ℕ)) → k (blockAt s at ∷ xs) ≡ y ∷ k′ xs)
@@ -153,3 +163,16 @@ full-join bs s h k = omega (arith, length-append (join bs) s, length-join bs h)
 pub rest-join : (bs : List (List ℕ)) (s : List ℕ) → Sized bs → length s < 16 → rest (join bs ++ s) ≡ s
 rest-join bs s h k =
     ap (λ (n : ℕ). drop (n * 16) (join bs ++ s)) (full-join bs s h k) ∙ drop-at (join bs) s (length bs * 16) (length-join bs h)
+
+pub blocks-of : (bs : List (List ℕ)) (s : List ℕ) → Sized bs → length s < 16 → blocks (full (join bs ++ s)) (join bs ++ s) ≡ bs
+blocks-of bs s h k = ap (λ (n : ℕ). blocks n (join bs ++ s)) (full-join bs s h k) ∙ blocks-join bs s h
+
+pub on-join : (f : List (List ℕ) → List (List ℕ)) (bs : List (List ℕ)) (s : List ℕ) → Sized bs → length s < 16
+    → onBlocks f (join bs ++ s) ≡ join (f bs) ++ s
+unfolding onBlocks
+on-join f bs s h k = ap₂ (λ (xs : List (List ℕ)) (r : List ℕ). join (f xs) ++ r) (blocks-of bs s h k) (rest-join bs s h k)
+
+pub sized-blocks : (n : ℕ) (l : List ℕ) → 16 * n ≤ length l → Sized (blocks n l)
+unfolding blocks
+sized-blocks zero l h = tt
+sized-blocks (suc n) l h = (length-take-le 16 l (omega arith), sized-blocks n (drop 16 l) (length-blocks-drop n l h))

@@ -6,3 +6,4 @@ pub mod XorLaws
 pub mod BlockLaws
 pub mod ArrayBytes
 pub mod DoubleLaws
+pub mod PadLaws

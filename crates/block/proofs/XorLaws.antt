@@ -110,6 +110,14 @@ getD-⊕ (x ∷ a) [] i h = omega arith
 getD-⊕ (x ∷ a) (y ∷ b) zero h = refl
 getD-⊕ (x ∷ a) (y ∷ b) (suc i) h = getD-⊕ a b i (suc-inj h)
 
+-- and where the left side is the shorter, within it
+pub getD-⊕-below : (a b : List ℕ) (i : ℕ) → i < length a → i < length b → getD (a ⊕ b) i 0 ≡ bitXor (getD a i 0) (getD b i 0)
+unfolding _⊕_
+getD-⊕-below [] b i h k = absurd (not-suc-le-zero h)
+getD-⊕-below (x ∷ a) [] i h k = absurd (not-suc-le-zero k)
+getD-⊕-below (x ∷ a) (y ∷ b) zero h k = refl
+getD-⊕-below (x ∷ a) (y ∷ b) (suc i) h k = getD-⊕-below a b i (le-of-suc-le-suc h) (le-of-suc-le-suc k)
+
 pub bytes-⊕ : (a b : List ℕ) → Bytes a → Bytes b → Bytes (a ⊕ b)
 unfolding _⊕_
 bytes-⊕ a b h k = record { below = go a b (h .below) (k .below) }

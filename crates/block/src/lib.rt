@@ -4,11 +4,11 @@
 // `tab` for a list given by its places. The laws about them are in `proofs/`: `XorLaws`, `TabLaws`, `BlockLaws`, and `Table`
 // for the rule of a table.
 ghost use mathlib.Core.Path.{_≡_};
-ghost use Prim.Native.Nat.{_+_, _≤_};
-ghost use lib.ListN.{length};
+ghost use Prim.Native.Nat.{_+_, _≤_, _<_};
+ghost use lib.ListN.{length, drop};
 ghost use Rattle.block.specs.Xor.{_⊕_};
 ghost use Rattle.block.specs.Blocks.{blockAt, withBlock};
-ghost use Rattle.block.specs.Double.{carried, double};
+ghost use Rattle.block.specs.Double.{carried, double, pad};
 
 // a xor b.
 pub fn xor(a: [u8; 16], b: [u8; 16]) -> [u8; 16]
@@ -63,6 +63,22 @@ pub fn doubled(x: [u8; 16]) -> [u8; 16]
         r[i] = std::num::wrapping_add_u8(x[i], x[i]) + c;
         i += 1;
     }
+    r
+}
+
+// The bytes of s from `at` on, fewer than 16, padded.
+pub fn padded(s: &[u8], at: usize) -> [u8; 16]
+    requires { ⌜ (at ≤ length (now s)) × (length (now s) < at + 16) ⌝ }
+    ensures { λ r. ⌜ r ≡ pad (drop at (now (s .entry))) ⌝ }
+{
+    let n = s.len() - at;
+    let mut r = [0u8; 16];
+    let mut i = 0;
+    while i < n {
+        r[i] = s[at + i];
+        i += 1;
+    }
+    r[n] = 0x80;
     r
 }
 

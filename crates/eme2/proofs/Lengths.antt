@@ -20,7 +20,7 @@ use Rattle.eme2.specs.TStar.{TTs, doubles, shortTT, sum, someTStar, tSta
 use Rattle.eme2.proofs.Totals.{AllBlocks, all-append, block-total}
 use Rattle.eme2.proofs.Undo.{all-sized, all-blocks, length-blocks, block-enter, block-leave, block-CCC1, block-CCCs, length-Cm, bytes-Cm}
 
-length-enter : (f : List ℕ → List ℕ) (L : List ℕ) (Ps : List (List ℕ)) → length (enter f L Ps) ≡ length Ps
+pub length-enter : (f : List ℕ → List ℕ) (L : List ℕ) (Ps : List (List ℕ)) → length (enter f L Ps) ≡ length Ps
 unfolding enter
 length-enter f L [] = refl
 length-enter f L (P ∷ Ps) = ap suc (length-enter f (double L) Ps)

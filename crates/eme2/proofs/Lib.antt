@@ -4,6 +4,10 @@ pub mod Undo
 pub mod Lengths
 pub mod TStarLaws
 pub mod PassLaws
-pub mod PadLaws
 pub mod AssociatedLaws
 pub mod Promise
+pub mod MixLaws
+pub mod ShortLaws
+pub mod WideLaws
+pub mod Ladder
+pub mod KeyLaws

@@ -3,22 +3,27 @@
 use mathlib.Core.Path.{_≡_, refl, sym, ap, ap₂, _∙_}
 use mathlib.Core.List.{List, [], _∷_, map}
 use Prim.Native.Nat.{ℕ}
+use lib.ListN.{length}
 use Rattle.block.specs.Xor.{_⊕_}
-use Rattle.block.specs.Bytes.{Block}
 use Rattle.block.specs.Double.{double}
-use Rattle.block.proofs.XorLaws.{⊕-comm}
-use Rattle.block.proofs.DoubleLaws.{block-double}
+use Rattle.block.proofs.XorLaws.{length-⊕, ⊕-comm}
+use Rattle.block.proofs.DoubleLaws.{length-double}
+use Rattle.block.proofs.BlockLaws.{Sized}
 use Rattle.eme2.specs.Wide.{enter, leave}
 use Rattle.eme2.specs.Passes.{masked}
-use Rattle.eme2.proofs.Totals.{AllBlocks}
 
-pub enter-masked : (f : List ℕ → List ℕ) {L : List ℕ} → Block L → (Ps : List (List ℕ)) → AllBlocks Ps → map f (masked L Ps) ≡ enter f L Ps
+pub sized-masked : (L : List ℕ) (bs : List (List ℕ)) → Sized bs → Sized (masked L bs)
+unfolding masked
+sized-masked L [] h = tt
+sized-masked L (b ∷ bs) h = (length-⊕ b L ∙ h .0, sized-masked (double L) bs (h .1))
+
+pub enter-masked : (f : List ℕ → List ℕ) (L : List ℕ) → length L ≡ 16 → (Ps : List (List ℕ)) → Sized Ps → map f (masked L Ps) ≡ enter f L Ps
 unfolding enter masked
-enter-masked f hL [] k = refl
-enter-masked f {L} hL (P ∷ Ps) k =
+enter-masked f L h [] k = refl
+enter-masked f L h (P ∷ Ps) k =
     ap₂ (λ (x : List ℕ) (xs : List (List ℕ)). x ∷ xs)
-    (ap f (⊕-comm P L (k .0 .size ∙ sym (hL .size))))
-    (enter-masked f (block-double L) Ps (k .1))
+    (ap f (⊕-comm P L (k .0 ∙ sym h)))
+    (enter-masked f (double L) (length-double L) Ps (k .1))
 
 pub leave-masked : (f : List ℕ → List ℕ) (L : List ℕ) (Xs : List (List ℕ)) → masked L (map f Xs) ≡ leave f L Xs
 unfolding leave masked

@@ -4,5 +4,6 @@ pub mod Wide
 pub mod Passes
 pub mod TStar
 pub mod Transform
+pub mod Calls
 pub mod Edges
 pub mod Examples

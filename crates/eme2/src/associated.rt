@@ -1,13 +1,12 @@
 // T_star of the associated data (000, table 1, steps 1 to 11), always with Enc.
 ghost use mathlib.Core.Path.{_≡_};
 ghost use mathlib.Core.Bool.{false};
-ghost use Prim.Native.Nat.{_+_, _≤_, _<_};
-ghost use lib.ListN.{length, drop};
+ghost use Prim.Native.Nat.{_<_};
 ghost use Rattle.block.specs.Xor.{_⊕_};
-ghost use Rattle.block.specs.Double.{pad};
 ghost use Rattle.cipher.specs.Cipher.{crypted};
 ghost use Rattle.eme2.specs.TStar.{eme2TStar};
 use block::doubled;
+use block::padded;
 use block::xor;
 
 // The xor of the blocks' TTs; of no data, Enc(Key3).
@@ -41,20 +40,4 @@ fn under(w: [[u8; 16]; 15], nr: usize, m: [u8; 16], x: [u8; 16]) -> [u8; 16]
     ensures { λ r. ⌜ r ≡ crypted false w nr (m ⊕ x) ⊕ m ⌝ }
 {
     xor(aes::crypt(false, w, nr, xor(m, x)), m)
-}
-
-// The bytes of s from `at` on, fewer than 16, padded.
-fn padded(s: &[u8], at: usize) -> [u8; 16]
-    requires { ⌜ (at ≤ length (now s)) × (length (now s) < at + 16) ⌝ }
-    ensures { λ r. ⌜ r ≡ pad (drop at (now (s .entry))) ⌝ }
-{
-    let n = s.len() - at;
-    let mut r = [0u8; 16];
-    let mut i = 0;
-    while i < n {
-        r[i] = s[at + i];
-        i += 1;
-    }
-    r[n] = 0x80;
-    r
 }

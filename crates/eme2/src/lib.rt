@@ -1,24 +1,78 @@
-// EME2-AES (000) as 01 scopes it: its definitions, what is proved of them (`proofs/Promise.antt`), and so far the masks of its two passes
-// and T_star.
+// EME2-AES (000) as 01 scopes it: keys of 48 and 64 bytes, associated data up to 1,024, messages of 16 to 65,536.
+//
+// `encipher` and `decipher` are the calls of 01: they take any key, associated data and message, and refuse with 1, 2 and 3. What is
+// proved of every message is in `proofs/Promise.antt`: the length is kept, and each direction undoes the other. `wide` is for other modes
+// that are the wide block under an L and a T_star of their own.
+ghost use mathlib.Core.Bool.{true, false};
 ghost use mathlib.Core.Path.{_≡_};
-ghost use Rattle.block.specs.Blocks.{onBlocks};
-ghost use Rattle.eme2.specs.Passes.{masked};
+ghost use Prim.Native.Nat.{_-_, _≤_};
+ghost use lib.ListN.{length};
+ghost use Rattle.schedule.specs.Size.{keySize};
+ghost use Rattle.eme2.specs.Transform.{eme2};
+ghost use Rattle.eme2.specs.Calls.{Called};
 // T_star.
 mod associated;
+// The mixing between the passes.
+mod mixing;
+// The two passes, and the whole wide block.
+mod passes;
 
-pub use associated::t_star;
+pub use passes::wide;
 
-// Each full block of s xored with its mask, 2^(i-1)·L for block i; the bytes after them are kept.
-pub fn mask(s: &mut [u8], l: [u8; 16])
-    ensures { λ _. ⌜ now (s .exit) ≡ onBlocks (masked l) (now (s .entry)) ⌝ }
+// What a call answers: 01's numbers 0, 1, 2 and 3.
+pub enum Answer {
+    Done,
+    KeyLength,
+    MessageLength,
+    DataLength,
+}
+
+// Overwrites the message with its encipherment under the key and the associated data.
+pub fn encipher(key: &[u8], ad: &[u8], message: &mut [u8]) -> Answer
+    ensures { λ r. ⌜ Called false (now (key .entry)) (now (ad .entry)) (now (message .entry)) r (now (message .exit)) ⌝ }
 {
-    let mut m = l;
-    let mut at = 0;
-    while s.len() - at >= 16 {
-        let x = block::load(s, at);
-        block::store(s, at, block::xor(x, m));
-        let next = block::doubled(m);
-        m = next;
-        at += 16;
+    call(false, key, ad, message)
+}
+
+// Overwrites the message with its decipherment under the key and the associated data.
+pub fn decipher(key: &[u8], ad: &[u8], message: &mut [u8]) -> Answer
+    ensures { λ r. ⌜ Called true (now (key .entry)) (now (ad .entry)) (now (message .entry)) r (now (message .exit)) ⌝ }
+{
+    call(true, key, ad, message)
+}
+
+// 01, numbers: the key is tested first, then the message, then the associated data.
+fn call(back: bool, key: &[u8], ad: &[u8], message: &mut [u8]) -> Answer
+    ensures { λ r. ⌜ Called back (now (key .entry)) (now (ad .entry)) (now (message .entry)) r (now (message .exit)) ⌝ }
+{
+    let n = key.len();
+    if n < 32 {
+        return Answer::KeyLength;
     }
+    if !aes::key_size(n - 32) {
+        return Answer::KeyLength;
+    }
+    if message.len() < 16 {
+        return Answer::MessageLength;
+    }
+    if message.len() > 65536 {
+        return Answer::MessageLength;
+    }
+    if ad.len() > 1024 {
+        return Answer::DataLength;
+    }
+    transform(back, key, ad, message);
+    Answer::Done
+}
+
+// EME2-AES itself; T_star is made with Enc in both directions.
+fn transform(back: bool, key: &[u8], ad: &[u8], message: &mut [u8])
+    requires { ⌜ (keySize (length (now key) - 32) ≡ true) × (16 ≤ length (now message)) ⌝ }
+    ensures { λ _. ⌜ now (message .exit) ≡ eme2 back (now (key .entry)) (now (ad .entry)) (now (message .entry)) ⌝ }
+{
+    let end = key.len() - 32;
+    let w = aes::key_setup(&key[0..end]);
+    let nr = aes::rounds_of(end);
+    let t = associated::t_star(w, nr, block::load(key, end + 16), ad);
+    wide(back, w, nr, block::load(key, end), t, message);
 }

@@ -1,4 +1,4 @@
--- `eme2::associated::padded` meets its contract: after i turns the first i bytes are those of the padded block.
+-- `block::padded` meets its contract: after i turns the first i bytes are those of the padded block.
 -- Assumes nothing.
 use mathlib.Core.Path.{_≡_, refl, sym, ap, ap₂, _∙_}
 use mathlib.Core.List.{List, _++_}
@@ -6,12 +6,12 @@ use Prim.Native.Nat.{ℕ, _+_, _-_, _≤_}
 use native.Mathlib.Omega.{arith}
 use lib.ListN.{length, getD, take, drop, set, replicate, length-drop}
 use lib.Seq.{getD-drop}
 use Rattle.block.specs.Double.{pad}
 use Rattle.block.proofs.BlockLaws.{fill-turn}
 use Rattle.block.proofs.DoubleLaws.{length-pad}
-use Rattle.eme2.proofs.PadLaws.{pad-at, pad-end, pad-done}
-use Rattle.eme2.proofs.associated.padded.Statement.{statement}
-use Rattle.eme2.proofs.associated.padded.Tie as tie
+use Rattle.block.proofs.PadLaws.{pad-at, pad-end, pad-done}
+use Rattle.block.proofs.padded.Statement.{statement}
+use Rattle.block.proofs.padded.Tie as tie
 
 abbrev Inv-loop : tie.InvT-loop
 Inv-loop s at n r₀ i₀ r i = (i ≤ n) × (n ≡ length s - at) × (r ≡ take i (pad (drop at s)) ++ drop i (replicate 16 0))

@@ -1,4 +1,4 @@
--- `eme2::mask` meets its contract: what is done, and what the masks that are left make of the rest, is the whole.
+-- `eme2::passes::mask` meets its contract: what is done, and what the masks that are left make of the rest, is the whole.
 -- Assumes nothing.
 use mathlib.Core.Path.{_≡_, refl, sym, ap, ap₂, _∙_}
 use mathlib.Core.List.{List, _∷_, _++_}
@@ -12,8 +12,8 @@ use Rattle.block.specs.Double.{double}
 use Rattle.block.proofs.ArrayBytes.{array-block}
 use Rattle.block.proofs.BlockLaws.{on-turn, on-done}
 use Rattle.eme2.specs.Passes.{masked}
-use Rattle.eme2.proofs.mask.Statement.{statement}
-use Rattle.eme2.proofs.mask.Tie as tie
+use Rattle.eme2.proofs.passes.mask.Statement.{statement}
+use Rattle.eme2.proofs.passes.mask.Tie as tie
 
 abbrev Inv-loop : tie.InvT-loop
 Inv-loop s₀ m₀ at₀ s m at =
