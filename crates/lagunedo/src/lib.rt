@@ -3,8 +3,12 @@
 ghost use mathlib.Core.Bool.{true, false};
 ghost use mathlib.Core.Path.{_≡_};
 ghost use Rattle.aes.specs.Calls.{paper};
-ghost use Rattle.lagunedo.specs.Calls.{AesCalled};
+ghost use Rattle.lagunedo.specs.Calls.{AesCalled, Eme2Called};
+// 01's numbers of EME2's answers.
+mod messages;
+
 use aes::Answer;
+use messages::eme2_number;
 
 // Overwrites the block with its encipherment under the key; 1, 2.
 #[no_mangle]
@@ -22,7 +26,23 @@ pub extern "C" fn lagunedo_aes_decipher(key: &[u8], block: &mut [u8]) -> u32
     aes_number(aes::decipher(key, block))
 }
 
-// 01's number of an answer.
+// Overwrites the message with its encipherment under the key and the associated data; 1, 2, 3.
+#[no_mangle]
+pub extern "C" fn lagunedo_eme2_encipher(key: &[u8], ad: &[u8], message: &mut [u8]) -> u32
+    ensures { λ r. ⌜ Eme2Called false (now (key .entry)) (now (ad .entry)) (now (message .entry)) r (now (message .exit)) ⌝ }
+{
+    eme2_number(eme2::encipher(key, ad, message))
+}
+
+// Overwrites the message with its decipherment under the key and the associated data; 1, 2, 3.
+#[no_mangle]
+pub extern "C" fn lagunedo_eme2_decipher(key: &[u8], ad: &[u8], message: &mut [u8]) -> u32
+    ensures { λ r. ⌜ Eme2Called true (now (key .entry)) (now (ad .entry)) (now (message .entry)) r (now (message .exit)) ⌝ }
+{
+    eme2_number(eme2::decipher(key, ad, message))
+}
+
+// 01's number of an answer of AES.
 fn aes_number(a: Answer) -> u32
     ensures { λ r. ⌜ r ≡ paper a ⌝ }
 {

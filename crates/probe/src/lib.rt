@@ -1,6 +1,6 @@
-// A window for tests and benchmarks on a call that the layers use among themselves and the interface for C does not show: AES over
-// all full blocks of a buffer. Nothing of the job server links it.
-ghost use Rattle.probe.specs.Calls.{BlocksCalled};
+// A window for tests and benchmarks on calls that the layers use among themselves and the interface for C does not show: AES over
+// all full blocks of a buffer, and the wide block under any L and T_star. Nothing of the job server links it.
+ghost use Rattle.probe.specs.Calls.{BlocksCalled, WideCalled};
 
 // Enciphers, or with `back` deciphers, every full block of the buffer; the bytes after them are kept. 1 where the key is not of a
 // size that AES takes, and the buffer is then kept.
@@ -13,5 +13,28 @@ pub extern "C" fn lagunedo_probe_aes_blocks(key: &[u8], back: bool, buffer: &mut
         return 1;
     }
     aes::crypt_blocks(back, aes::key_setup(key), aes::rounds_of(n), buffer);
+    0
+}
+
+// The wide block of the message under L and T_star, over AES under the key; with `back`, over its inverse. 1 where the key is not of a
+// size that AES takes; 2 where L or T_star is not a block, or the message is below 16 bytes. The message is then kept.
+#[no_mangle]
+pub extern "C" fn lagunedo_probe_wide(key: &[u8], back: bool, l: &[u8], t: &[u8], message: &mut [u8]) -> u32
+    ensures { λ r. ⌜ WideCalled back (now (key .entry)) (now (l .entry)) (now (t .entry)) (now (message .entry)) r (now (message .exit)) ⌝ }
+{
+    let n = key.len();
+    if !aes::key_size(n) {
+        return 1;
+    }
+    if l.len() != 16 {
+        return 2;
+    }
+    if t.len() != 16 {
+        return 2;
+    }
+    if message.len() < 16 {
+        return 2;
+    }
+    eme2::wide(back, aes::key_setup(key), aes::rounds_of(n), block::load(l, 0), block::load(t, 0), message);
     0
 }

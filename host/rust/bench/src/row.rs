@@ -13,7 +13,16 @@ const FEWEST: u32 = 5;
 /// Work on a buffer in place.
 pub type Call = Box<dyn Fn(&mut [u8])>;
 
-/// A call and a peer that is to give the same bytes.
+/// Who says which bytes the library is to give: a time is worth nothing where
+/// the work is wrong.
+pub enum Judge {
+    /// The peer, since it does the same work.
+    Peer,
+    /// This call, since the peer does other work on as many bytes.
+    Apart(Call),
+}
+
+/// A call and a peer.
 pub struct Row {
     /// What is called, and on how much.
     pub call: String,
@@ -25,6 +34,8 @@ pub struct Row {
     pub library: Call,
     /// The peer's way.
     pub against: Call,
+    /// Who says what the library is to give.
+    pub judge: Judge,
 }
 
 /// The best times, in nanoseconds a byte.
@@ -35,20 +46,27 @@ pub struct Timed {
 }
 
 impl Row {
-    /// Whether both give the same bytes, so that the times are of equal work.
-    pub fn agrees(&self) -> bool {
-        let mut one = Random::new(self.length as u64).bytes(self.length);
-        let before = one.clone();
-        let mut two = one.clone();
-        (self.library)(&mut one);
-        (self.against)(&mut two);
-        one == two && one != before
+    /// Whether the library gives the bytes that it is to give, and the peer
+    /// does any work at all.
+    pub fn sound(&self) -> bool {
+        let before = self.buffer();
+        let after = |call: &Call| {
+            let mut buffer = before.clone();
+            call(&mut buffer);
+            buffer
+        };
+        let [library, peer] = [&self.library, &self.against].map(after);
+        let wanted = match &self.judge {
+            Judge::Peer => peer.clone(),
+            Judge::Apart(call) => after(call),
+        };
+        library == wanted && library != before && peer != before
     }
 
     /// Runs both in turn, so that a slow moment of the machine meets both, and
     /// keeps the best of each, which such moments disturb least.
     pub fn time(&self) -> Timed {
-        let mut buffer = Random::new(self.length as u64).bytes(self.length);
+        let mut buffer = self.buffer();
         let mut best = [Duration::MAX; 2];
         let mut runs = 0;
         let start = Instant::now();
@@ -64,10 +82,44 @@ impl Row {
             runs,
         }
     }
+
+    fn buffer(&self) -> Vec<u8> {
+        Random::new(self.length as u64).bytes(self.length)
+    }
 }
 
 fn run(call: &Call, buffer: &mut [u8]) -> Duration {
     let start = Instant::now();
     call(black_box(buffer));
     start.elapsed()
+}
+
+#[cfg(test)]
+mod tests {
+    use super::{Call, Judge, Row};
+
+    fn row(library: u8, against: u8, judge: Judge) -> Row {
+        let xor = |mask: u8| -> Call { Box::new(move |b| b[0] ^= mask) };
+        Row {
+            call: String::new(),
+            peer: String::new(),
+            length: 16,
+            library: xor(library),
+            against: xor(against),
+            judge,
+        }
+    }
+
+    /// A row with wrong bytes, or without work, is not timed.
+    #[test]
+    fn unsound_rows() {
+        let apart = |mask: u8| Judge::Apart(Box::new(move |b| b[0] ^= mask));
+        assert!(row(1, 1, Judge::Peer).sound());
+        assert!(!row(1, 2, Judge::Peer).sound());
+        assert!(!row(0, 0, Judge::Peer).sound());
+        assert!(row(1, 2, apart(1)).sound());
+        assert!(!row(1, 2, apart(2)).sound());
+        assert!(!row(0, 2, apart(0)).sound());
+        assert!(!row(1, 0, apart(1)).sound());
+    }
 }

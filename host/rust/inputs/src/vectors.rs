@@ -71,11 +71,19 @@ fn known(line: &[String]) -> Known {
 /// Where they are not pairs of hexadecimal digits.
 #[must_use]
 pub fn from_hex(digits: &str) -> Vec<u8> {
-    let digit = |d: u8| char::from(d).to_digit(16).expect("a hexadecimal digit");
-    assert!(digits.len().is_multiple_of(2), "half a byte: {digits}");
-    digits
-        .as_bytes()
-        .chunks(2)
-        .map(|pair| (digit(pair[0]) * 16 + digit(pair[1])) as u8)
-        .collect()
+    hex(digits).unwrap_or_else(|why| panic!("{why}"))
+}
+
+/// The same, or what is wrong with the digits.
+pub fn hex(digits: &str) -> Result<Vec<u8>, String> {
+    let digit = |d: char| {
+        d.to_digit(16)
+            .ok_or_else(|| format!("no hexadecimal digit: {d}"))
+    };
+    let values: Vec<u32> = digits.chars().map(digit).collect::<Result<_, _>>()?;
+    if !values.len().is_multiple_of(2) {
+        return Err(format!("half a byte: {digits}"));
+    }
+    let pairs = values.chunks(2);
+    Ok(pairs.map(|pair| (pair[0] * 16 + pair[1]) as u8).collect())
 }

@@ -3,8 +3,8 @@
 
 mod refusal;
 
-pub use refusal::Refusal;
 use refusal::answer;
+pub use refusal::Refusal;
 
 extern "C" {
     fn lagunedo_aes_encipher(
@@ -18,6 +18,22 @@ extern "C" {
         key_length: usize,
         block: *mut u8,
         block_length: usize,
+    ) -> u32;
+    fn lagunedo_eme2_encipher(
+        key: *const u8,
+        key_length: usize,
+        ad: *const u8,
+        ad_length: usize,
+        message: *mut u8,
+        message_length: usize,
+    ) -> u32;
+    fn lagunedo_eme2_decipher(
+        key: *const u8,
+        key_length: usize,
+        ad: *const u8,
+        ad_length: usize,
+        message: *mut u8,
+        message_length: usize,
     ) -> u32;
 }
 
@@ -48,5 +64,58 @@ pub fn aes_decipher(key: &[u8], block: &mut [u8]) -> Result<(), Refusal> {
     // SAFETY: as for enciphering.
     let number =
         unsafe { lagunedo_aes_decipher(key.as_ptr(), key.len(), block.as_mut_ptr(), block.len()) };
+    answer(number)
+}
+
+/// Enciphers a message of 16 to 65,536 bytes in place with EME2-AES, under a
+/// key of 48 bytes (AES-128 inside) or 64 (AES-256) and with associated data
+/// of up to 1,024 bytes, which may be empty. The result is as long as the
+/// message.
+///
+/// # Errors
+///
+/// [`Refusal::KEY_LENGTH`] where the key is neither 48 nor 64 bytes, then
+/// [`Refusal::MESSAGE_LENGTH`] where the message is below 16 bytes or above
+/// 65,536, then [`Refusal::DATA_LENGTH`] where the associated data is above
+/// 1,024; the message is then as it was.
+pub fn eme2_encipher(key: &[u8], ad: &[u8], message: &mut [u8]) -> Result<(), Refusal> {
+    // SAFETY: as for AES, with a further slice that is only read. It and the
+    // key may be the same bytes in Rust, or overlap, and are then read twice;
+    // neither overlaps the message, which is borrowed mutably.
+    let number = unsafe {
+        lagunedo_eme2_encipher(
+            key.as_ptr(),
+            key.len(),
+            ad.as_ptr(),
+            ad.len(),
+            message.as_mut_ptr(),
+            message.len(),
+        )
+    };
+    answer(number)
+}
+
+/// Deciphers a message in place: undoes [`eme2_encipher`] under the same key
+/// and with the same associated data.
+///
+/// The cipher does not detect forgery. A wrong key of an allowed length, other
+/// associated data, or bytes that were changed, cut off or added are no error:
+/// the answer is `Ok`, and the message then holds other bytes.
+///
+/// # Errors
+///
+/// Those of [`eme2_encipher`]: they look at lengths alone.
+pub fn eme2_decipher(key: &[u8], ad: &[u8], message: &mut [u8]) -> Result<(), Refusal> {
+    // SAFETY: as for enciphering.
+    let number = unsafe {
+        lagunedo_eme2_decipher(
+            key.as_ptr(),
+            key.len(),
+            ad.as_ptr(),
+            ad.len(),
+            message.as_mut_ptr(),
+            message.len(),
+        )
+    };
     answer(number)
 }

@@ -15,6 +15,8 @@ impl Refusal {
     /// The message (for AES alone: the block) has a length that the call does
     /// not take.
     pub const MESSAGE_LENGTH: Self = Self(NonZeroU32::new(2).unwrap());
+    /// The associated data is above 1,024 bytes.
+    pub const DATA_LENGTH: Self = Self(NonZeroU32::new(3).unwrap());
 
     /// The number in 01's table.
     #[must_use]

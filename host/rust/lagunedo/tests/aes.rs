@@ -1,8 +1,8 @@
 //! AES of the proved library against the published answers and against the
 //! second implementation.
 
-use inputs::{Random, from_hex, lines, nist};
-use lagunedo::{Refusal, aes_decipher, aes_encipher};
+use inputs::{from_hex, lines, nist, Lent, Random};
+use lagunedo::{aes_decipher, aes_encipher, Refusal};
 use second::aes;
 
 /// Pairs of random key and block tried for each key size.
@@ -10,9 +10,6 @@ const PAIRS: u64 = 100_000;
 
 /// A failing case prints its own seed, from which it can be repeated alone.
 const SEED: u64 = 0x1a90_edd0;
-
-/// Bytes before and after a lent block, which no call may change.
-const GUARD: usize = 24;
 
 const KEY_LENGTHS: [usize; 2] = [16, 32];
 
@@ -24,23 +21,14 @@ fn call(key: &[u8], back: bool, block: &mut [u8]) -> Result<(), Refusal> {
     }
 }
 
-/// The answer's number, and the bytes that the library leaves in the block.
-/// The block is lent from the middle of other bytes, at an address shifted by
-/// `shift`, and those other bytes and the key must stay.
+/// The answer's number, and the bytes that the library leaves in the block,
+/// lent at an address shifted by `shift`. The key must stay.
 fn library(key: &[u8], back: bool, block: &[u8], shift: usize) -> (u32, Vec<u8>) {
-    let lent_key = key.to_vec();
-    let start = GUARD + shift;
-    let end = start + block.len();
-    let mut whole = vec![0xa5; end + GUARD];
-    whole[start..end].copy_from_slice(block);
-    let number = call(&lent_key, back, &mut whole[start..end]).map_or_else(Refusal::number, |()| 0);
-    assert_eq!(lent_key, key, "the key changed");
-    let around = whole[..start].iter().chain(&whole[end..]);
-    assert!(
-        around.copied().all(|b| b == 0xa5),
-        "bytes around the block changed"
-    );
-    (number, whole[start..end].to_vec())
+    let lent_key = Lent::new(key, 0);
+    let mut lent = Lent::new(block, shift);
+    let answer = call(lent_key.bytes(), back, lent.bytes_mut());
+    assert_eq!(lent_key.after(), key, "the key changed");
+    (answer.map_or_else(Refusal::number, |()| 0), lent.after())
 }
 
 /// The same of the second implementation.

@@ -10,6 +10,17 @@ extern "C" {
         buffer: *mut u8,
         buffer_length: usize,
     ) -> u32;
+    fn lagunedo_probe_wide(
+        key: *const u8,
+        key_length: usize,
+        back: bool,
+        l: *const u8,
+        l_length: usize,
+        t: *const u8,
+        t_length: usize,
+        message: *mut u8,
+        message_length: usize,
+    ) -> u32;
 }
 
 /// AES over all full blocks of the buffer in place, as the layer above calls
@@ -34,6 +45,42 @@ pub fn aes_blocks(key: &[u8], back: bool, buffer: &mut [u8]) -> Result<(), u32> 
             buffer.len(),
         )
     };
+    answer(number)
+}
+
+/// The wide block in place: lines 12 to 45 of source document 000's Table 1,
+/// or of Table 2 where `back` is true, over AES under `key`, with L = `l` in
+/// line 12 and T_star = `t`. EME2-AES is this with its key's fields and the
+/// block made from the associated data; other values of L and T_star make it
+/// EME-32-AES, for which there are published vectors.
+///
+/// # Errors
+///
+/// 1 where the key is neither 16 nor 32 bytes, then 2 where `l` or `t` is not
+/// 16 bytes or the message is below 16; the message is then as it was. It has
+/// no upper limit here.
+pub fn wide(key: &[u8], back: bool, l: &[u8], t: &[u8], message: &mut [u8]) -> Result<(), u32> {
+    // SAFETY: as for the blocks, with two further slices that are only read.
+    // Those that are only read may overlap in Rust; the message, borrowed
+    // mutably, overlaps none of them.
+    let number = unsafe {
+        lagunedo_probe_wide(
+            key.as_ptr(),
+            key.len(),
+            back,
+            l.as_ptr(),
+            l.len(),
+            t.as_ptr(),
+            t.len(),
+            message.as_mut_ptr(),
+            message.len(),
+        )
+    };
+    answer(number)
+}
+
+/// What a number returned by the library means: 0 is the work done.
+fn answer(number: u32) -> Result<(), u32> {
     match number {
         0 => Ok(()),
         number => Err(number),

@@ -1,14 +1,11 @@
 //! The call that the layer above AES uses, against the second implementation
 //! taken block by block.
 
-use inputs::Random;
+use inputs::{Lent, Random};
 use probe::aes_blocks;
 use second::aes;
 
 const SEED: u64 = 0x9b0b_e000;
-
-/// Bytes before and after a lent buffer, which no call may change.
-const GUARD: usize = 24;
 
 /// Around the powers of two, a record's text (2,096) and a record (2,112), up
 /// to 256 full blocks and 15 bytes.
@@ -17,22 +14,14 @@ const LONG: [usize; 22] = [
     4080, 4095, 4096, 4097, 4111,
 ];
 
-/// What the library leaves in the buffer, and its number. The buffer is lent
-/// from the middle of other bytes, and those and the key must stay.
+/// What the library leaves in the buffer, lent at an address that depends on
+/// its length, and its number. The key must stay.
 fn library(key: &[u8], back: bool, buffer: &[u8]) -> (u32, Vec<u8>) {
-    let lent_key = key.to_vec();
-    let start = GUARD + buffer.len() % 16;
-    let end = start + buffer.len();
-    let mut whole = vec![0xa5; end + GUARD];
-    whole[start..end].copy_from_slice(buffer);
-    let number = aes_blocks(&lent_key, back, &mut whole[start..end]).map_or_else(|n| n, |()| 0);
-    assert_eq!(lent_key, key, "the key changed");
-    let around = whole[..start].iter().chain(&whole[end..]);
-    assert!(
-        around.copied().all(|b| b == 0xa5),
-        "bytes around the buffer changed"
-    );
-    (number, whole[start..end].to_vec())
+    let lent_key = Lent::new(key, 0);
+    let mut lent = Lent::new(buffer, buffer.len() % 16);
+    let answer = aes_blocks(lent_key.bytes(), back, lent.bytes_mut());
+    assert_eq!(lent_key.after(), key, "the key changed");
+    (answer.map_or_else(|n| n, |()| 0), lent.after())
 }
 
 /// The same of the second implementation, for a key of an allowed length.

@@ -194,8 +194,9 @@ fn begins_mask(i: usize) -> bool {
     (i - 1).is_multiple_of(128)
 }
 
-/// Mult-by-alpha, section 5.1.
-fn double(x: Block) -> Block {
+/// Mult-by-alpha, section 5.1. EME-32-AES has the same.
+#[must_use]
+pub fn double(x: [u8; 16]) -> [u8; 16] {
     let mut y = from_fn(|i| {
         let carry = i > 0 && x[i - 1] > 127;
         x[i].wrapping_mul(2) + u8::from(carry)

@@ -16,7 +16,7 @@ mod field;
 mod schedule;
 mod substitution;
 
-pub use eme2::{eme2, wide};
+pub use eme2::{double, eme2, wide};
 
 /// 01: a key given is not 48 or 64 bytes (AES alone: 16 or 32).
 pub const KEY_LENGTH: u32 = 1;

@@ -1,0 +1,2 @@
+-- What is proved of the probe's promises.
+pub mod WideLadder
