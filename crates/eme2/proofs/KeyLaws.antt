@@ -14,8 +14,8 @@ use Rattle.schedule.proofs.Laws.{key-sizes}
 use Rattle.cipher.specs.Cipher.{crypted}
 use Rattle.aes.specs.Aes.{aes}
 use Rattle.aes.specs.Promise.{crypted-aes}
-use Rattle.eme2.specs.Wide.{wide}
-use Rattle.eme2.specs.TStar.{eme2TStar}
+use Rattle.wide.specs.Wide.{wide}
+use Rattle.wide.specs.TStar.{eme2TStar}
 use Rattle.eme2.specs.Transform.{Key1, Key2, Key3, eme2}
 
 module _ (k : List ℕ) (h : 32 ≤ length k) where

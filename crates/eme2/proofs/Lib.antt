@@ -1,13 +1,4 @@
--- What is proved of the wide block.
-pub mod Totals
-pub mod Undo
-pub mod Lengths
-pub mod TStarLaws
-pub mod PassLaws
-pub mod AssociatedLaws
+-- What is proved of EME2-AES for every input, and what its calls need.
 pub mod Promise
-pub mod MixLaws
-pub mod ShortLaws
-pub mod WideLaws
-pub mod Ladder
 pub mod KeyLaws
+pub mod Ladder

@@ -16,12 +16,12 @@ use Rattle.schedule.specs.Size.{keySize}
 use Rattle.schedule.proofs.Laws.{key-sizes}
 use Rattle.aes.specs.Aes.{aes}
 use Rattle.aes.specs.Promise.{aes-block, aes-undone}
-use Rattle.eme2.specs.Permutation.{Undoes}
-use Rattle.eme2.specs.TStar.{eme2TStar}
+use Rattle.wide.specs.Permutation.{Undoes}
+use Rattle.wide.specs.TStar.{eme2TStar}
 use Rattle.eme2.specs.Transform.{Key1, Key2, Key3, number, eme2, afterwards}
-use Rattle.eme2.proofs.Undo.{wide-undone}
-use Rattle.eme2.proofs.Lengths.{length-wide}
-use Rattle.eme2.proofs.TStarLaws.{block-tStar}
+use Rattle.wide.proofs.Undo.{wide-undone}
+use Rattle.wide.proofs.Lengths.{length-wide}
+use Rattle.wide.proofs.TStarLaws.{block-tStar}
 
 -- what the ladder says where it lets a call through
 through : (a b c : Bool) → _≡_ {A = ℕ} (cond (not a) 1 (cond b 2 (cond c 3 0))) 0 → (a ≡ true) × (b ≡ false)

@@ -7,8 +7,8 @@ use lib.Dec.{eqb, ltb}
 use lib.ListN.{length, take, drop}
 use Rattle.schedule.specs.Size.{keySize}
 use Rattle.aes.specs.Aes.{aes}
-use Rattle.eme2.specs.Wide.{wide}
-use Rattle.eme2.specs.TStar.{eme2TStar}
+use Rattle.wide.specs.Wide.{wide}
+use Rattle.wide.specs.TStar.{eme2TStar}
 
 -- the last 16 key bytes are Key3, the 16 before them Key2, the rest Key1: an AES key
 abbrev pub Key1 : List ℕ → List ℕ

@@ -1,8 +1,7 @@
 // EME2-AES (000) as 01 scopes it: keys of 48 and 64 bytes, associated data up to 1,024, messages of 16 to 65,536.
 //
 // `encipher` and `decipher` are the calls of 01: they take any key, associated data and message, and refuse with 1, 2 and 3. What is
-// proved of every message is in `proofs/Promise.antt`: the length is kept, and each direction undoes the other. `wide` is for other modes
-// that are the wide block under an L and a T_star of their own.
+// proved of every message is in `proofs/Promise.antt`: the length is kept, and each direction undoes the other.
 ghost use mathlib.Core.Bool.{true, false};
 ghost use mathlib.Core.Path.{_≡_};
 ghost use Prim.Native.Nat.{_-_, _≤_};
@@ -10,14 +9,6 @@ ghost use lib.ListN.{length};
 ghost use Rattle.schedule.specs.Size.{keySize};
 ghost use Rattle.eme2.specs.Transform.{eme2};
 ghost use Rattle.eme2.specs.Calls.{Called};
-// T_star.
-mod associated;
-// The mixing between the passes.
-mod mixing;
-// The two passes, and the whole wide block.
-mod passes;
-
-pub use passes::wide;
 
 // What a call answers: 01's numbers 0, 1, 2 and 3.
 pub enum Answer {
@@ -73,6 +64,6 @@ fn transform(back: bool, key: &[u8], ad: &[u8], message: &mut [u8])
     let end = key.len() - 32;
     let w = aes::key_setup(&key[0..end]);
     let nr = aes::rounds_of(end);
-    let t = associated::t_star(w, nr, block::load(key, end + 16), ad);
-    wide(back, w, nr, block::load(key, end), t, message);
+    let t = wide::t_star(w, nr, block::load(key, end + 16), ad);
+    wide::wide(back, w, nr, block::load(key, end), t, message);
 }

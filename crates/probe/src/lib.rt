@@ -35,6 +35,6 @@ pub extern "C" fn lagunedo_probe_wide(key: &[u8], back: bool, l: &[u8], t: &[u8]
     if message.len() < 16 {
         return 2;
     }
-    eme2::wide(back, aes::key_setup(key), aes::rounds_of(n), block::load(l, 0), block::load(t, 0), message);
+    wide::wide(back, aes::key_setup(key), aes::rounds_of(n), block::load(l, 0), block::load(t, 0), message);
     0
 }

@@ -1,0 +1,61 @@
+-- `edges::kept` meets its contract: what is passed is the pattern, and a byte that is not stops it.
+-- Assumes nothing.
+use mathlib.Core.Path.{_≡_, sym, _∙_}
+use mathlib.Core.List.{List}
+use Prim.Native.Nat.{ℕ, _≤_, _<_, _-_}
+use native.Mathlib.Omega.{arith}
+use borrow.Author.Count.{below-more}
+use lib.ListN.{length, getD}
+use Rattle.edges.specs.Pattern.{patternByte}
+use Rattle.edges.proofs.kept.Statement.{statement}
+use Rattle.edges.proofs.kept.Tie as tie
+
+abbrev Inv-loop : tie.InvT-loop
+Inv-loop message i₀ i = (i ≤ length message) × ((k : ℕ) → k < i → getD message k 0 ≡ patternByte 3 0 k)
+
+abbrev μ-loop : tie.MeasureT-loop
+μ-loop message i₀ i = length message - i
+
+loop-holds : tie.Need-loop-holds Inv-loop μ-loop
+loop-holds c = (omega arith, λ k l. omega arith)
+
+shared-slice-read-if1 : tie.Need-shared-slice-read-if1 Inv-loop μ-loop
+shared-slice-read-if1 c = omega arith
+
+pattern-requires : tie.Need-pattern-requires Inv-loop μ-loop
+pattern-requires c κs = omega arith
+
+returns : tie.Need-returns Inv-loop μ-loop
+returns c =
+    let l = c .before .before .before .before .loop in
+    (λ e. let z : _≡_ {A = ℕ} 0 1 = cc in omega arith, λ e p. c .if1 .taken (p (l .i) (omega arith) ∙ sym (c .before .pattern .ensures)))
+
+add-i : tie.Need-add-i Inv-loop μ-loop
+add-i c = omega arith
+
+loop-less : tie.Need-loop-less Inv-loop μ-loop
+loop-less c = omega arith
+
+loop-again : tie.Need-loop-again Inv-loop μ-loop
+loop-again c =
+    let l = c .before .before .before .before .loop in
+    let m : List ℕ = c .before .before .before .before .before .before .args .message .now in
+    (omega arith, below-more (λ k. getD m k 0 ≡ patternByte 3 0 k) (l .i) (l .inv .1) (c .if1 .left ∙ c .before .pattern .ensures))
+
+returns-2 : tie.Need-returns-2 Inv-loop μ-loop
+returns-2 c = (λ e k h. c .before .loop .inv .1 k (omega arith), λ e p. let z : _≡_ {A = ℕ} 0 1 = cc in omega arith)
+
+pub kept-spec : {M : Type 1} → statement M
+kept-spec =
+    tie.close
+    (tie.spec
+    Inv-loop
+    μ-loop
+    loop-holds
+    shared-slice-read-if1
+    pattern-requires
+    returns
+    add-i
+    loop-less
+    loop-again
+    returns-2)

@@ -1,0 +1,41 @@
+-- 01, both sides of each edge: D1 to D12, over the definitions, as one table.
+-- Assumes nothing.
+use mathlib.Core.Path.{_≡_, refl}
+use mathlib.Core.Bool.{cond}
+use mathlib.Core.List.{List, [], _∷_, _++_, map}
+use Prim.Native.Nat.{ℕ, zero, suc, _-_, _/_}
+use lib.ListN.{length, replicate}
+use Rattle.block.specs.Blocks.{full, rest, blocks}
+use Rattle.block.specs.Double.{double, pad}
+use Rattle.sbox.specs.Sub.{sub}
+use Rattle.sbox.specs.Examples.{D12}
+use Rattle.wide.specs.Wide.{begins}
+
+-- the lengths of the full blocks of n bytes, and of what is left
+abbrev pub parts : ℕ → List ℕ
+unfolding blocks
+parts n = map length (blocks (full (replicate n 0)) (replicate n 0)) ++ (length (rest (replicate n 0)) ∷ [])
+
+-- those of the blocks i to i + n - 1 that begin a new mask
+abbrev pub newMasks : ℕ → ℕ → List ℕ
+newMasks i zero = []
+newMasks i (suc n) = cond (begins i) (i ∷ newMasks (suc i) n) (newMasks (suc i) n)
+
+-- the table: one row for each of 01's
+pub record Edges : Type 0 where
+  pub D1 : double (0x01 ∷ replicate 15 0x00) ≡ 0x02 ∷ replicate 15 0x00
+  pub D2 : double (0x80 ∷ replicate 15 0x00) ≡ 0x00 ∷ 0x01 ∷ replicate 14 0x00
+  pub D3 : double (replicate 15 0x00 ++ (0x80 ∷ [])) ≡ 0x87 ∷ replicate 15 0x00
+  pub D4 : double (replicate 16 0xff) ≡ 0x79 ∷ replicate 15 0xff
+  pub D5 : pad (0xab ∷ []) ≡ 0xab ∷ 0x80 ∷ replicate 14 0x00
+  pub D6 : parts 33 ≡ 16 ∷ 16 ∷ 1 ∷ []
+  pub D7 : parts 32 ≡ 16 ∷ 16 ∷ 0 ∷ []
+  pub D8 : newMasks 2 (2048 / 16 - 1) ≡ []
+  pub D9 : newMasks 2 (2049 / 16 - 1) ≡ []
+  pub D10 : newMasks 2 (2064 / 16 - 1) ≡ 129 ∷ []
+  pub D11 : newMasks 2 (2065 / 16 - 1) ≡ 129 ∷ []
+  pub D12 : sub 0x00 ≡ 0x63
+
+pub edges : Edges
+unfolding double pad blocks
+edges = record { D1 = refl; D2 = refl; D3 = refl; D4 = refl; D5 = refl; D6 = refl; D7 = refl; D8 = refl; D9 = refl; D10 = refl; D11 = refl; D12 = D12 }
