@@ -46,7 +46,7 @@ module _ (k : List ℕ) (h : 32 ≤ length k) where
   unfolding eme2
   transformed back ad m w nr k3 t l m′ e-w e-n e-3 e-t e-l e-m =
       let same : (b : Bool) → crypted b w nr ≡ aes b (Key1 k) =
-          λ b. ap₂ (crypted b) (e-w ∙ ap roundKeys key1-part) (e-n ∙ ap (λ (n : ℕ). n / 4 + 6) (sym length-Key1)) ∙ (λ i x. crypted-aes b (Key1 k) x i) in
+      λ b. ap₂ (crypted b) (e-w ∙ ap roundKeys key1-part) (e-n ∙ ap (λ (n : ℕ). n / 4 + 6) (sym length-Key1)) ∙ (λ i x. crypted-aes b (Key1 k) x i) in
       e-m
       ∙ ap₂ (λ (f : List ℕ → List ℕ) (x : List ℕ). wide f x t m) (same back) e-l
       ∙ ap (λ (x : List ℕ). wide (aes back (Key1 k)) (Key2 k) x m)

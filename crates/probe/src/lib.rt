@@ -19,7 +19,13 @@ pub extern "C" fn lagunedo_probe_aes_blocks(key: &[u8], back: bool, buffer: &mut
 // The wide block of the message under L and T_star, over AES under the key; with `back`, over its inverse. 1 where the key is not of a
 // size that AES takes; 2 where L or T_star is not a block, or the message is below 16 bytes. The message is then kept.
 #[no_mangle]
-pub extern "C" fn lagunedo_probe_wide(key: &[u8], back: bool, l: &[u8], t: &[u8], message: &mut [u8]) -> u32
+pub extern "C" fn lagunedo_probe_wide(
+    key: &[u8],
+    back: bool,
+    l: &[u8],
+    t: &[u8],
+    message: &mut [u8],
+) -> u32
     ensures { λ r. ⌜ WideCalled back (now (key .entry)) (now (l .entry)) (now (t .entry)) (now (message .entry)) r (now (message .exit)) ⌝ }
 {
     let n = key.len();
@@ -35,6 +41,13 @@ pub extern "C" fn lagunedo_probe_wide(key: &[u8], back: bool, l: &[u8], t: &[u8]
     if message.len() < 16 {
         return 2;
     }
-    wide::wide(back, aes::key_setup(key), aes::rounds_of(n), block::load(l, 0), block::load(t, 0), message);
+    wide::wide(
+        back,
+        aes::key_setup(key),
+        aes::rounds_of(n),
+        block::load(l, 0),
+        block::load(t, 0),
+        message,
+    );
     0
 }

@@ -101,12 +101,12 @@ module _ (f : List ℕ → List ℕ) (size : (x : List ℕ) → length (f x) ≡
         let q-c1 : c1 ≡ mc1 f T X1 Xs r = e-c1 ∙ ap₂ (MC1 f) (first-rest s h) q-mm in
         let q-m1 : m1v ≡ m1 f T X1 Xs r = e-m1 ∙ ap₂ (λ (a b : List ℕ). a ⊕ b) e-mp q-c1 in
         let q-s1 : s1 ≡ join (X1 ∷ C) ++ r =
-            e-s1 ∙ ap (λ (m : List ℕ). X1 ++ onBlocks (middle f m 2 m) (drop 16 s)) q-m1 ∙ sym (append-assoc X1 (join C) r) in
+        e-s1 ∙ ap (λ (m : List ℕ). X1 ++ onBlocks (middle f m 2 m) (drop 16 s)) q-m1 ∙ sym (append-assoc X1 (join C) r) in
         let q-s2 : s2 ≡ X1 ++ (join C ++ c) =
-            e-s2 ∙ ap₂ shorted q-s1 q-mm ∙ short-join (X1 ∷ C) r (mm f T X1 Xs r) hY lr ∙ append-assoc X1 (join C) c in
+        e-s2 ∙ ap₂ shorted q-s1 q-mm ∙ short-join (X1 ∷ C) r (mm f T X1 Xs r) hY lr ∙ append-assoc X1 (join C) c in
         let q-d : drop 16 s2 ≡ join C ++ c = ap (λ (z : List ℕ). drop 16 z) q-s2 ∙ drop-at X1 (join C ++ c) 16 (hY .0) in
         let q-y : y ≡ CCC1 f T X1 Xs r =
-            e-y ∙ ap₂ (λ (a z : List ℕ). totalOf a z ⊕ T) q-c1 q-d ∙ ap (λ (z : List ℕ). z ⊕ T) (total-join (mc1 f T X1 Xs r) C c hC lc) in
+        e-y ∙ ap₂ (λ (a z : List ℕ). totalOf a z ⊕ T) q-c1 q-d ∙ ap (λ (z : List ℕ). z ⊕ T) (total-join (mc1 f T X1 Xs r) C c hC lc) in
         ap₂ (λ (a z : List ℕ). a ++ z) q-y q-d
         ∙ sym (append-assoc (CCC1 f T X1 Xs r) (join C) c)
         ∙ sym (ap₂ (mixedOn f T) (first-block s h) (first-rest s h))
@@ -137,7 +137,7 @@ module _ (f : List ℕ → List ℕ) (size : (x : List ℕ) → length (f x) ≡
       let X : List (List ℕ) = enter f L Bs in
       let hX : Sized X = sized-enter L Bs in
       let entered : onBlocks (map f) (onBlocks (masked L) P) ≡ join X ++ r =
-          on-join (map f) (masked L Bs) r (sized-masked L Bs hB) lr ∙ ap (λ (bs : List (List ℕ)). join bs ++ r) (enter-masked f L hL Bs hB) in
+      on-join (map f) (masked L Bs) r (sized-masked L Bs hB) lr ∙ ap (λ (bs : List (List ℕ)). join bs ++ r) (enter-masked f L hL Bs hB) in
       let n : 0 < length X = omega (arith, length-enter f L Bs, length-blocks (full P) P) in
       ap (λ (z : List ℕ). onBlocks (masked L) (onBlocks (map f) (mixed f T z))) entered
       ∙ ap (λ (z : List ℕ). onBlocks (masked L) (onBlocks (map f) z)) (ap₂ (mixedOn f T) (blocks-of X r hX lr) (rest-join X r hX lr))

@@ -13,9 +13,7 @@ use block::xor;
 // The full blocks of s from the second on, from the mask M1.
 pub fn blocks(back: bool, w: [[u8; 16]; 15], nr: usize, m1: [u8; 16], s: &mut [u8])
     requires { ⌜ (0 < nr) × (nr < 15) × (16 ≤ length (now s)) ⌝ }
-    ensures {
-        λ _. ⌜ now (s .exit) ≡ take 16 (now (s .entry)) ++ onBlocks (middle (crypted back w nr) m1 2 m1) (drop 16 (now (s .entry))) ⌝
-    }
+    ensures { λ _. ⌜ now (s .exit) ≡ take 16 (now (s .entry)) ++ onBlocks (middle (crypted back w nr) m1 2 m1) (drop 16 (now (s .entry))) ⌝ }
 {
     let mut m = m1;
     let mut at = 16;
@@ -28,12 +26,18 @@ pub fn blocks(back: bool, w: [[u8; 16]; 15], nr: usize, m1: [u8; 16], s: &mut [u
 
 // The block of s at `at`, which is block at/16 + 1 of the message, becomes its CCC; its mask is returned, from the mask m of the block
 // before.
-fn one(back: bool, w: [[u8; 16]; 15], nr: usize, m1: [u8; 16], m: [u8; 16], s: &mut [u8], at: usize) -> [u8; 16]
+fn one(
+    back: bool,
+    w: [[u8; 16]; 15],
+    nr: usize,
+    m1: [u8; 16],
+    m: [u8; 16],
+    s: &mut [u8],
+    at: usize,
+) -> [u8; 16]
     requires { ⌜ (0 < nr) × (nr < 15) × (at + 16 ≤ length (now s)) ⌝ }
-    ensures {
-        λ r. ⌜ (r ≡ mask (crypted back w nr) m1 (at / 16 + 1) m (blockAt (now (s .entry)) at))
-            × (now (s .exit) ≡ withBlock (now (s .entry)) at (cccOf (crypted back w nr) m1 (at / 16 + 1) r (blockAt (now (s .entry)) at))) ⌝
-    }
+    ensures { λ r. ⌜ (r ≡ mask (crypted back w nr) m1 (at / 16 + 1) m (blockAt (now (s .entry)) at))
+        × (now (s .exit) ≡ withBlock (now (s .entry)) at (cccOf (crypted back w nr) m1 (at / 16 + 1) r (blockAt (now (s .entry)) at))) ⌝ }
 {
     let x = block::load(s, at);
     if at / 16 % 128 != 0 {

@@ -19,7 +19,7 @@ Inv-loop back w nr m1 s₀ m₀ at₀ s m at =
     (at ≤ length s)
     × (length s ≡ length s₀)
     × (take at s ++ onBlocks (middle (crypted back w nr) m1 (at / 16 + 1) m) (drop at s)
-      ≡ take 16 s₀ ++ onBlocks (middle (crypted back w nr) m1 2 m1) (drop 16 s₀))
+    ≡ take 16 s₀ ++ onBlocks (middle (crypted back w nr) m1 2 m1) (drop 16 s₀))
 
 abbrev μ-loop : tie.MeasureT-loop
 μ-loop back w nr m1 s₀ m₀ at₀ s m at = length s₀ - at
