@@ -10,8 +10,9 @@
  * What holds for every call
  *
  * Byte strings are lent as a pointer followed by their length in bytes. They
- * need no alignment. Buffers lent to one call must not overlap, not even in
- * one byte. NULL is allowed where the length is 0, and nowhere else.
+ * need no alignment. A buffer that a call overwrites must not overlap another
+ * one lent to it, not even in one byte; those that are only read may. NULL is
+ * allowed where the length is 0, and nowhere else.
  *
  * A call returns LAGUNEDO_DONE (0), or one number that says why it refused.
  * Its refusals are tested in the order listed with the call, and the first

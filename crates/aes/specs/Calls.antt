@@ -1,10 +1,9 @@
 -- 01, AES, and 01's numbers: the two calls on a lent block, their refusals in order, and that their promise determines them.
 -- Assumes nothing.
 use mathlib.Core.Bool.{Bool, cond, not}
-use mathlib.Core.Path.{_≡_, refl, sym, _∙_}
+use mathlib.Core.Path.{_≡_, refl, sym, ap, _∙_}
 use mathlib.Core.List.{List}
-use Prim.Native.Nat.{ℕ}
-use native.Mathlib.Omega.{arith}
+use Prim.Native.Nat.{ℕ, zero, suc}
 use lib.Dec.{eqb}
 use lib.ListN.{length}
 use Rattle.aes.specs.declared.Answer.{Answer}
@@ -30,17 +29,17 @@ afterwards back k b = cond (eqb (number k b) 0) (aes back k b) b
 abbrev pub Called : Bool → List ℕ → List ℕ → Answer → List ℕ → Type 0
 Called back k b answer b′ = (paper answer ≡ number k b) × (b′ ≡ afterwards back k b)
 
-paper-apart : (a a′ : Answer) → paper a ≡ paper a′ → a ≡ a′
-paper-apart Done Done e = refl
-paper-apart KeyLength KeyLength e = refl
-paper-apart BlockLength BlockLength e = refl
-paper-apart Done KeyLength e = let z : ⊥ = omega arith in absurd z
-paper-apart Done BlockLength e = let z : ⊥ = omega arith in absurd z
-paper-apart KeyLength Done e = let z : ⊥ = omega arith in absurd z
-paper-apart KeyLength BlockLength e = let z : ⊥ = omega arith in absurd z
-paper-apart BlockLength Done e = let z : ⊥ = omega arith in absurd z
-paper-apart BlockLength KeyLength e = let z : ⊥ = omega arith in absurd z
+-- the answer with a number
+abbrev answerOf : ℕ → Answer
+answerOf zero = Done
+answerOf (suc zero) = KeyLength
+answerOf (suc (suc n)) = BlockLength
+
+answer-paper : (a : Answer) → answerOf (paper a) ≡ a
+answer-paper Done = refl
+answer-paper KeyLength = refl
+answer-paper BlockLength = refl
 
 -- two answers that keep the promise are equal, and so are the bytes afterwards
 pub called-determined : (back : Bool) (k b : List ℕ) (a a′ : Answer) (s s′ : List ℕ) → Called back k b a s → Called back k b a′ s′ → (a ≡ a′) × (s ≡ s′)
-called-determined back k b a a′ s s′ p q = (paper-apart a a′ (p .0 ∙ sym (q .0)), p .1 ∙ sym (q .1))
+called-determined back k b a a′ s s′ p q = (sym (answer-paper a) ∙ ap answerOf (p .0 ∙ sym (q .0)) ∙ answer-paper a′, p .1 ∙ sym (q .1))
