@@ -7,3 +7,4 @@ pub mod BlockLaws
 pub mod ArrayBytes
 pub mod DoubleLaws
 pub mod PadLaws
+pub mod RowLaws

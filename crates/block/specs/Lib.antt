@@ -4,3 +4,5 @@ pub mod Bytes
 pub mod Xor
 pub mod Blocks
 pub mod Double
+pub mod Rows
+pub mod LittleEndian

@@ -35,11 +35,6 @@ module _ (back : Bool) (k ad m : List ℕ) where
       let n : number k ad m ≡ 1 = from-tests false (ltb (length m) 16 || ltb 65536 (length m)) (ltb 1024 (length ad)) e refl refl in
       (sym n, sym (with-number 1 n))
 
-  pub key-below : length k < 32 → Called back k ad m KeyLength m
-  key-below h =
-      let z : length k - 32 ≡ 0 = omega arith in
-      key-refused (ap keySize z)
-
   message-refused : keySize (length k - 32) ≡ true → (ltb (length m) 16 || ltb 65536 (length m)) ≡ true → Called back k ad m MessageLength m
   message-refused e b =
       let n : number k ad m ≡ 2 = from-tests true true (ltb 1024 (length ad)) e b refl in
@@ -65,3 +60,9 @@ module _ (back : Bool) (k ad m : List ℕ) where
   done e h l g m′ p =
       let n : number k ad m ≡ 0 = from-tests true false false e (message-taken h l) (le-ltb 1024 (length ad) g) in
       (sym n, p ∙ sym (with-number 0 n))
+
+-- a key that is too short for Key2 and Key3
+pub key-below : (k : List ℕ) → length k < 32 → keySize (length k - 32) ≡ false
+key-below k h =
+    let z : length k - 32 ≡ 0 = omega arith in
+    ap keySize z

@@ -36,11 +36,7 @@ pub fn decipher(key: &[u8], ad: &[u8], message: &mut [u8]) -> Answer
 fn call(back: bool, key: &[u8], ad: &[u8], message: &mut [u8]) -> Answer
     ensures { λ r. ⌜ Called back (now (key .entry)) (now (ad .entry)) (now (message .entry)) r (now (message .exit)) ⌝ }
 {
-    let n = key.len();
-    if n < 32 {
-        return Answer::KeyLength;
-    }
-    if !aes::key_size(n - 32) {
+    if !key_taken(key) {
         return Answer::KeyLength;
     }
     if message.len() < 16 {
@@ -54,6 +50,17 @@ fn call(back: bool, key: &[u8], ad: &[u8], message: &mut [u8]) -> Answer
     }
     transform(back, key, ad, message);
     Answer::Done
+}
+
+// Whether the key is 48 or 64 bytes: what is left of it before Key2 and Key3 is a key of AES.
+pub fn key_taken(key: &[u8]) -> bool
+    ensures { λ b. ⌜ b ≡ keySize (length (now (key .entry)) - 32) ⌝ }
+{
+    let n = key.len();
+    if n < 32 {
+        return false;
+    }
+    aes::key_size(n - 32)
 }
 
 // EME2-AES itself; T_star is made with Enc in both directions.

@@ -1,0 +1,139 @@
+-- Laws of looking for a slot and of counting slots, and a slot as the part of the store that the code takes.
+-- Assumes nothing.
+use mathlib.Core.Path.{_≡_, refl, sym, ap, _∙_}
+use mathlib.Core.Logic.{⊎-elim}
+use mathlib.Core.Bool.{Bool, true, false, cond, not}
+use mathlib.Core.List.{List}
+use Prim.Native.Nat.{ℕ, zero, suc, _+_, _-_, _*_, _≤_, _<_}
+use native.Mathlib.Nat.{eq-or-lt-of-le}
+use native.Mathlib.Numerals.{add-one}
+use native.Mathlib.Omega.{arith}
+use borrow.Author.Tests.{eqb-true, eqb-false}
+use lib.Dec.{eqb}
+use lib.ListN.{length, take, drop}
+use Rattle.block.specs.Rows.{row}
+use Rattle.block.proofs.RowLaws.{length-row}
+use Rattle.slots.specs.Record.{num}
+use Rattle.slots.specs.Slots.{slots, slot, scan, lowest, tally, find}
+
+-- ---- the first that passes a test
+
+of-le : (b : Bool) (x y m : ℕ) → x ≤ m → y ≤ m → cond b x y ≤ m
+of-le true x y m h k = h
+of-le false x y m h k = k
+
+of-has : (p : ℕ → Bool) (b : Bool) (x y m : ℕ) → p x ≡ b → (y < m → p y ≡ true) → cond b x y < m → p (cond b x y) ≡ true
+of-has p true x y m e k h = e
+of-has p false x y m e k h = k h
+
+of-below : (p : ℕ → Bool) (b : Bool) (x y j : ℕ) → p x ≡ b → x ≤ j → (x < j → j < y → p j ≡ false) → j < cond b x y → p j ≡ false
+of-below p true x y j e l k h = let z : ⊥ = omega arith in absurd z
+of-below p false x y j e l k h =
+    ⊎-elim (λ (q : x ≡ j). ap p (sym q) ∙ e) (λ (q : x < j). k q h) (eq-or-lt-of-le l)
+
+module _ (p : ℕ → Bool) where
+  pub scan-le : (i n : ℕ) → scan p i n ≤ i + n
+  unfolding scan
+  scan-le i zero = omega arith
+  scan-le i (suc n) = of-le (p i) i (scan p (suc i) n) (i + suc n) (omega arith) (omega (arith, scan-le (suc i) n))
+
+  pub scan-has : (i n : ℕ) → scan p i n < i + n → p (scan p i n) ≡ true
+  unfolding scan
+  scan-has i zero h = let z : ⊥ = omega arith in absurd z
+  scan-has i (suc n) h =
+      of-has p (p i) i (scan p (suc i) n) (i + suc n) refl (λ (k : scan p (suc i) n < i + suc n). scan-has (suc i) n (omega arith)) h
+
+  pub scan-below : (i n j : ℕ) → i ≤ j → j < scan p i n → p j ≡ false
+  unfolding scan
+  scan-below i zero j l h = let z : ⊥ = omega arith in absurd z
+  scan-below i (suc n) j l h =
+      of-below p (p i) i (scan p (suc i) n) j refl l (λ (k : i < j) (m : j < scan p (suc i) n). scan-below (suc i) n j k m) h
+
+  -- a loop that looks: what is left from k on, of c in all
+  pub scan-start : (c : ℕ) → scan p 0 (c - 0) ≡ lowest p c
+  scan-start c =
+      let e : c - 0 ≡ c = omega arith in
+      ap (scan p 0) e
+
+  pub scan-step : (k c : ℕ) → k < c → p k ≡ false → scan p k (c - k) ≡ scan p (k + 1) (c - (k + 1))
+  unfolding scan
+  scan-step k c h e =
+      let n : c - k ≡ suc (c - (k + 1)) = omega arith in
+      ap (scan p k) n
+      ∙ ap (λ (t : Bool). cond t k (scan p (suc k) (c - (k + 1)))) e
+      ∙ ap (λ (j : ℕ). scan p j (c - (k + 1))) (sym (add-one k))
+
+  pub scan-found : (k c : ℕ) → k < c → p k ≡ true → scan p k (c - k) ≡ k
+  unfolding scan
+  scan-found k c h e =
+      let n : c - k ≡ suc (c - (k + 1)) = omega arith in
+      ap (scan p k) n ∙ ap (λ (t : Bool). cond t k (scan p (suc k) (c - (k + 1)))) e
+
+  pub scan-end : (k c : ℕ) → c ≤ k → scan p k (c - k) ≡ k
+  unfolding scan
+  scan-end k c h =
+      let n : c - k ≡ 0 = omega arith in
+      ap (scan p k) n
+
+  pub lowest-le : (n : ℕ) → lowest p n ≤ n
+  lowest-le n = omega (arith, scan-le 0 n)
+
+  pub lowest-has : (n : ℕ) → lowest p n < n → p (lowest p n) ≡ true
+  lowest-has n h = scan-has 0 n (omega arith)
+
+  pub lowest-below : (n j : ℕ) → j < lowest p n → p j ≡ false
+  lowest-below n j h = scan-below 0 n j (omega arith) h
+
+-- ---- counts
+
+of-one : (b : Bool) → cond b 1 0 ≤ 1
+of-one true = omega arith
+of-one false = omega arith
+
+of-both : (b : Bool) → cond b 1 0 + cond (not b) 1 0 ≡ 1
+of-both true = refl
+of-both false = refl
+
+module _ (p : ℕ → Bool) where
+  pub tally-le : (n : ℕ) → tally p n ≤ n
+  unfolding tally
+  tally-le zero = omega arith
+  tally-le (suc n) = omega (arith, tally-le n, of-one (p n))
+
+  pub tally-not : (n : ℕ) → tally p n + tally (λ k. not (p k)) n ≡ n
+  unfolding tally
+  tally-not zero = refl
+  tally-not (suc n) = omega (arith, tally-not n, of-both (p n))
+
+-- ---- slots
+
+-- whether slot k has sheet number n
+abbrev pub hasNum : List ℕ → ℕ → ℕ → Bool
+hasNum s n k = eqb (num (slot s k)) n
+
+module _ (s : List ℕ) (n : ℕ) where
+  pub find-start : (c : ℕ) → c ≡ slots s → find s n ≡ scan (hasNum s n) 0 (c - 0)
+  unfolding find
+  find-start c e = ap (lowest (hasNum s n)) (sym e) ∙ sym (scan-start (hasNum s n) c)
+
+  pub find-le : find s n ≤ slots s
+  unfolding find
+  find-le = lowest-le (hasNum s n) (slots s)
+
+  pub find-has : find s n < slots s → num (slot s (find s n)) ≡ n
+  unfolding find
+  find-has h = eqb-true (num (slot s (find s n))) n (lowest-has (hasNum s n) (slots s) h)
+
+  pub find-lowest : (j : ℕ) → j < find s n → num (slot s j) ≡ n → ⊥
+  unfolding find
+  find-lowest j h = eqb-false (num (slot s j)) n (lowest-below (hasNum s n) (slots s) j h)
+
+-- the part of s from k * 2112 on that the code takes for slot k
+pub slot-part : (s : List ℕ) (k : ℕ) → take (k * 2112 + 2112 - k * 2112) (drop (k * 2112) s) ≡ slot s k
+unfolding row
+slot-part s k =
+    let n : k * 2112 + 2112 - k * 2112 ≡ 2112 = omega arith in
+    ap (λ (m : ℕ). take m (drop (k * 2112) s)) n
+
+pub length-slot : (s : List ℕ) (k : ℕ) → k < slots s → length (slot s k) ≡ 2112
+length-slot s k h = length-row 2112 s k (omega arith)

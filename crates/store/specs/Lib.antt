@@ -1,0 +1,3 @@
+-- The calls of the store: their ladders of refusals, and what they promise.
+pub mod Plans
+pub mod Calls

@@ -1,0 +1,102 @@
+// Check: the lowest faulty slot, or the five counts.
+ghost use mathlib.Core.Path.{_≡_};
+ghost use Prim.Native.Nat.{_<_};
+ghost use Rattle.slots.specs.Slots.{slots, slot};
+ghost use Rattle.store.specs.Calls.{faulty, firstFault, used, marked, counted, CheckCalled};
+use super::Checked;
+use super::Refusal;
+use super::plans::bad_size;
+use slots::count;
+use slots::number_at;
+
+pub fn check(store: &[u8]) -> Checked
+    ensures { λ a. ⌜ CheckCalled (now (store .entry)) a ⌝ }
+{
+    if bad_size(store) {
+        return Checked::Refused(Refusal::StoreSize);
+    }
+    let k = first_fault(store);
+    if k < count(store) {
+        return Checked::Fault(k);
+    }
+    let n = used_slots(store);
+    Checked::Counts {
+        used: n,
+        free: count(store) - n,
+        clear: marked_slots(store, 0),
+        old: marked_slots(store, 1),
+        new: marked_slots(store, 2),
+    }
+}
+
+// The lowest faulty slot, or the count of slots.
+fn first_fault(store: &[u8]) -> usize
+    ensures { λ k. ⌜ k ≡ firstFault (now (store .entry)) ⌝ }
+{
+    let c = count(store);
+    let mut k = 0;
+    while k < c {
+        if is_faulty(store, k) {
+            return k;
+        }
+        k += 1;
+    }
+    c
+}
+
+// Whether slot k is unsound, or repeats a lower slot's number other than 0.
+fn is_faulty(store: &[u8], k: usize) -> bool
+    requires { ⌜ k < slots (now store) ⌝ }
+    ensures { λ b. ⌜ b ≡ faulty (now (store .entry)) k ⌝ }
+{
+    let at = k * 2112;
+    let end = at + 2112;
+    if !slots::is_sound(&store[at..end]) {
+        return true;
+    }
+    let n = slots::number(&store[at..end]);
+    if n == 0 {
+        return false;
+    }
+    slots::find(store, n) < k
+}
+
+// How many slots are used.
+fn used_slots(store: &[u8]) -> usize
+    ensures { λ n. ⌜ n ≡ counted used (now (store .entry)) ⌝ }
+{
+    let c = count(store);
+    let mut n = 0;
+    let mut k = 0;
+    while k < c {
+        n = if number_at(store, k) == 0 { n } else { n + 1 };
+        k += 1;
+    }
+    n
+}
+
+// How many slots are used with mark m.
+fn marked_slots(store: &[u8], m: u8) -> usize
+    ensures { λ n. ⌜ n ≡ counted (marked m) (now (store .entry)) ⌝ }
+{
+    let c = count(store);
+    let mut n = 0;
+    let mut k = 0;
+    while k < c {
+        n = if has_mark(store, k, m) { n + 1 } else { n };
+        k += 1;
+    }
+    n
+}
+
+fn has_mark(store: &[u8], k: usize, m: u8) -> bool
+    requires { ⌜ k < slots (now store) ⌝ }
+    ensures { λ b. ⌜ b ≡ marked m (slot (now (store .entry)) k) ⌝ }
+{
+    let at = k * 2112;
+    let end = at + 2112;
+    if slots::number(&store[at..end]) == 0 {
+        return false;
+    }
+    slots::mark(&store[at..end]) == m
+}

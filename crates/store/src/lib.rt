@@ -1,0 +1,90 @@
+// The sheet store of 01 in lent bytes: check, read, add, revise, remove, and one step of the rekeying job, by value.
+//
+// Every call answers any bytes, keys and numbers. Its ladder of refusals is a function of its own that only reads (`plans`), and the call does
+// what the plan says. Contracts cite `specs/Calls.antt`: what a call answers and the bytes afterwards, by equations.
+// Check.
+mod checking;
+// The ladders of refusals.
+mod plans;
+// Read.
+mod reading;
+// One step of the rekeying job.
+mod stepping;
+// Add, revise and remove.
+mod writing;
+
+pub use checking::check;
+pub use reading::read;
+pub use stepping::step_at;
+pub use writing::add;
+pub use writing::remove;
+pub use writing::revise;
+
+// 01's numbers 1 to 14, also those that the store cannot meet: 2 and 3 are the transform's own, and 14 is shown impossible.
+pub enum Refusal {
+    KeyLength,
+    MessageLength,
+    DataLength,
+    StoreSize,
+    SheetZero,
+    TextLength,
+    NoSheet,
+    OtherRevision,
+    LastRevision,
+    NoRoom,
+    SheetThere,
+    Unsound,
+    BufferShort,
+    LengthChanged,
+}
+
+// What a ladder comes to: a refusal, or the slot to work on.
+pub enum Plan {
+    Refuse(Refusal),
+    At(usize),
+}
+
+// What check answers: the five counts of a sound store, or the lowest faulty slot.
+pub enum Checked {
+    Counts {
+        used: usize,
+        free: usize,
+        clear: usize,
+        old: usize,
+        new: usize,
+    },
+    Fault(usize),
+    Refused(Refusal),
+}
+
+// What read answers.
+pub enum Text {
+    Read { length: usize, revision: u32 },
+    Refused(Refusal),
+}
+
+// What add and revise answer: the revision now stored.
+pub enum Stored {
+    Revision(u32),
+    Refused(Refusal),
+}
+
+pub enum Removed {
+    Done,
+    Refused(Refusal),
+}
+
+// The outcomes of a step, in 01's order.
+pub enum Outcome {
+    Done,
+    Free,
+    Damaged,
+    Already,
+    Converted,
+}
+
+// What a step answers: its outcome and the job's place afterwards.
+pub enum Stepped {
+    Went { outcome: Outcome, place: usize },
+    Refused(Refusal),
+}

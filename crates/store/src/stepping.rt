@@ -1,0 +1,42 @@
+// One step of the rekeying job, its place by value.
+ghost use mathlib.Core.Path.{_≡_};
+ghost use Rattle.store.specs.Calls.{outcomeAt, movedFrom, convertedAt, StepCalled};
+use super::Outcome;
+use super::Plan;
+use super::Stepped;
+use super::plans::step_plan;
+use slots::count;
+
+pub fn step_at(old: &[u8], new: &[u8], store: &mut [u8], place: usize) -> Stepped
+    ensures { λ a. ⌜ StepCalled (now (old .entry)) (now (new .entry)) (now (store .entry)) place a (now (store .exit)) ⌝ }
+{
+    match step_plan(old, new, store, place) {
+        Plan::Refuse(x) => Stepped::Refused(x),
+        Plan::At(k) => step_slot(old, new, store, k),
+    }
+}
+
+// The slot at place k.
+fn step_slot(old: &[u8], new: &[u8], store: &mut [u8], k: usize) -> Stepped
+    ensures {
+        λ a. ⌜ (a ≡ Stepped.Went (outcomeAt (now (store .entry)) k) (movedFrom k (outcomeAt (now (store .entry)) k)))
+            × (now (store .exit) ≡ convertedAt (now (old .entry)) (now (new .entry)) (now (store .entry)) k (outcomeAt (now (store .entry)) k)) ⌝
+    }
+{
+    if k >= count(store) {
+        return Stepped::Went { outcome: Outcome::Done, place: k };
+    }
+    let at = k * 2112;
+    let end = at + 2112;
+    if slots::number(&store[at..end]) == 0 {
+        return Stepped::Went { outcome: Outcome::Free, place: k + 1 };
+    }
+    if !slots::is_sound(&store[at..end]) {
+        return Stepped::Went { outcome: Outcome::Damaged, place: k + 1 };
+    }
+    if slots::mark(&store[at..end]) == 2 {
+        return Stepped::Went { outcome: Outcome::Already, place: k + 1 };
+    }
+    slots::rekey_at(store, k, old, new);
+    Stepped::Went { outcome: Outcome::Converted, place: k + 1 }
+}
