@@ -2,7 +2,8 @@
 ghost use mathlib.Core.Path.{_≡_};
 ghost use Prim.Native.Nat.{_<_};
 ghost use lib.ListN.{length};
-ghost use Rattle.slots.specs.Slots.{slots};
+ghost use Rattle.slots.specs.Record.{num};
+ghost use Rattle.slots.specs.Slots.{slots, slot};
 ghost use Rattle.store.specs.Plans.{badKeys, badSize, badText, readAtPlan, readPlan, addPlan, reviseAtPlan, revisePlan, removePlan, stepPlan};
 use super::Plan;
 use super::Refusal;
@@ -31,7 +32,7 @@ pub fn read_plan(old: &[u8], new: &[u8], store: &[u8], sheet: u32, room: usize) 
 
 // 12, 13, of the slot that was found.
 fn read_at_plan(old: &[u8], new: &[u8], store: &[u8], room: usize, k: usize) -> Plan
-    requires { ⌜ k < slots (now store) ⌝ }
+    requires { ⌜ (k < slots (now store)) × (num (slot (now store) k) ≡ 0 → ⊥) ⌝ }
     ensures { λ p. ⌜ p ≡ readAtPlan (now (old .entry)) (now (new .entry)) (now (store .entry)) room k ⌝ }
 {
     let at = k * 2112;
