@@ -29,7 +29,14 @@ host-rust:
 host-bench:
 	$(HOST_CARGO) run $(HOST_CARGO_FLAGS) --package bench
 
-$(HOST_OUT)/test $(HOST_OUT)/example: $(HOST_OUT)/%: host/c/%.c $(HOST_HEADER) $(HOST_LIBRARY)
+# One program out of the files of its rooms.
+HOST_TESTS := $(wildcard host/c/test*.c)
+
+$(HOST_OUT)/test: $(HOST_TESTS) host/c/check.h host/c/lent.h $(HOST_HEADER) $(HOST_LIBRARY)
+	@mkdir -p $(HOST_OUT)
+	$(CC) $(HOST_CFLAGS) -Ihost/include -o $@ $(HOST_TESTS) $(HOST_LIBRARY)
+
+$(HOST_OUT)/example: host/c/example.c $(HOST_HEADER) $(HOST_LIBRARY)
 	@mkdir -p $(HOST_OUT)
 	$(CC) $(HOST_CFLAGS) -Ihost/include -o $@ $< $(HOST_LIBRARY)
 

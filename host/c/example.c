@@ -1,8 +1,10 @@
 /*
- * A first look at the library. The text of a sheet is enciphered with
- * EME2-AES, deciphered back, and one call is refused; then the same is done
- * to one block with AES alone. It ends with status 1 if anything is not as
- * FIPS 197 and the header say.
+ * The main job of a job server, in small. A store of five slots stands in
+ * memory, with a sheet in clear and a sheet under the old key. Two sheets are
+ * added, one of them is read and revised, and a revision that comes late is
+ * refused. Then the rekeying job brings the whole store under the new key.
+ *
+ * It ends with status 1 if anything is not as the header says.
  */
 
 #include <stdio.h>
@@ -10,119 +12,162 @@
 
 #include "lagunedo.h"
 
+enum { SLOTS = 5 };
+
+/* All zeros: every slot is free. */
+static uint8_t store[SLOTS * LAGUNEDO_RECORD_SIZE];
+static uint8_t old_key[48], new_key[64];
+static int good = 1;
+
+/* For show only: the bytes of a true key are random and secret. */
+static void make_keys(void)
+{
+    size_t i;
+
+    for (i = 0; i < sizeof old_key; i++)
+        old_key[i] = (uint8_t)i;
+    for (i = 0; i < sizeof new_key; i++)
+        new_key[i] = (uint8_t)(255 - i);
+}
+
+/* Whether the call did its work; a refusal is told with its number. */
+static int done(uint32_t number)
+{
+    if (number != LAGUNEDO_DONE) {
+        printf("refused with %u\n", (unsigned)number);
+        good = 0;
+    }
+    return number == LAGUNEDO_DONE;
+}
+
 /*
- * The text of sheet 305 at revision 2, and the lead of that sheet as the
- * associated data: number, revision, mark and text length.
+ * What the store held before this library had it: sheet 305 in clear in slot
+ * 0, and sheet 306 in slot 1, enciphered under the old key with its lead.
  */
-static const char text[] = "PRESS 4 HOLD 5AM THEN COOL";
-enum { TEXT = sizeof text - 1 };
-static const uint8_t lead[16] = { 0x31, 0x01, 0, 0, 2, 0, 2, 0, TEXT, 0 };
-
-/* The example of FIPS 197, appendix B. */
-static const uint8_t key[16] = {
-    0x2b, 0x7e, 0x15, 0x16, 0x28, 0xae, 0xd2, 0xa6,
-    0xab, 0xf7, 0x15, 0x88, 0x09, 0xcf, 0x4f, 0x3c
-};
-static const uint8_t plain[16] = {
-    0x32, 0x43, 0xf6, 0xa8, 0x88, 0x5a, 0x30, 0x8d,
-    0x31, 0x31, 0x98, 0xa2, 0xe0, 0x37, 0x07, 0x34
-};
-static const uint8_t enciphered[16] = {
-    0x39, 0x25, 0x84, 0x1d, 0x02, 0xdc, 0x09, 0xfb,
-    0xdc, 0x11, 0x85, 0x97, 0x19, 0x6a, 0x0b, 0x32
-};
-
-static void show(const char *what, const uint8_t *bytes, size_t length)
+static void found(void)
 {
-    size_t i;
+    static const uint8_t clear[LAGUNEDO_LEAD_SIZE] = {
+        0x31, 0x01, 0, 0, 2, 0, LAGUNEDO_MARK_CLEAR, 0, 16
+    };
+    static const uint8_t old[LAGUNEDO_LEAD_SIZE] = {
+        0x32, 0x01, 0, 0, 7, 0, LAGUNEDO_MARK_OLD_KEY, 0, 22
+    };
+    uint8_t *one = store, *two = store + LAGUNEDO_RECORD_SIZE;
 
-    printf("%-12s", what);
-    for (i = 0; i < length; i++)
-        printf("%02x", (unsigned)bytes[i]);
-    printf("\n");
+    memcpy(one, clear, sizeof clear);
+    memcpy(one + LAGUNEDO_LEAD_SIZE, "PRESS 4 HOLD 5AM", 16);
+    memcpy(two, old, sizeof old);
+    memcpy(two + LAGUNEDO_LEAD_SIZE, "PRESS 1 HEAVY BOARD 3X", 22);
+    good &= lagunedo_eme2_encipher(old_key, sizeof old_key, two,
+                                   LAGUNEDO_LEAD_SIZE,
+                                   two + LAGUNEDO_LEAD_SIZE,
+                                   22) == LAGUNEDO_DONE;
 }
 
-static void show_text(const char *what, const uint8_t *message)
+/* The counts, and whether the two that the job brings to 0 are as said. */
+static void check(uint32_t clear_wanted, uint32_t old_wanted)
 {
-    printf("%-12s%.*s\n", what, TEXT, (const char *)message);
+    uint32_t fault, used, free_slots, clear, old, current;
+    uint32_t number = lagunedo_check(store, sizeof store, &fault, &used,
+                                     &free_slots, &clear, &old, &current);
+
+    printf("check       ");
+    if (number == LAGUNEDO_FAULT)
+        printf("slot %u is faulty\n", (unsigned)fault);
+    else if (done(number))
+        printf("used %u free %u clear %u old key %u new key %u\n",
+               (unsigned)used, (unsigned)free_slots, (unsigned)clear,
+               (unsigned)old, (unsigned)current);
+    good &= number == LAGUNEDO_DONE && clear == clear_wanted &&
+            old == old_wanted;
 }
 
-/* Whether the call answered as it should and the bytes are as they should. */
-static int as_said(uint32_t answer, uint32_t wanted, const uint8_t *bytes,
-                   const void *wanted_bytes, size_t length)
+static void add(uint32_t sheet, const char *text)
 {
-    return answer == wanted && memcmp(bytes, wanted_bytes, length) == 0;
+    uint32_t revision;
+
+    printf("add %u     ", (unsigned)sheet);
+    if (done(lagunedo_add(old_key, sizeof old_key, new_key, sizeof new_key,
+                          store, sizeof store, sheet, (const uint8_t *)text,
+                          strlen(text), &revision)))
+        printf("revision %u\n", (unsigned)revision);
 }
 
-static int sheet(void)
+/* Shows the sheet, and gives the revision that the operator then has seen. */
+static uint32_t read_sheet(uint32_t sheet, const char *wanted)
 {
-    uint8_t sheet_key[64], message[TEXT];
-    uint32_t answer;
-    size_t i;
-    int good;
+    uint8_t text[LAGUNEDO_TEXT_MOST];
+    uint32_t length, revision = 0;
 
-    /* For show only: the bytes of a true key are random and secret. */
-    for (i = 0; i < sizeof sheet_key; i++)
-        sheet_key[i] = (uint8_t)i;
-
-    printf("EME2-AES, a sheet's text under a key of 64 bytes\n");
-    memcpy(message, text, sizeof message);
-    show("lead", lead, sizeof lead);
-    show_text("text", message);
-
-    answer = lagunedo_eme2_encipher(sheet_key, sizeof sheet_key, lead,
-                                    sizeof lead, message, sizeof message);
-    show("enciphered", message, sizeof message);
-    good = answer == LAGUNEDO_DONE && memcmp(message, text, TEXT) != 0;
-
-    answer = lagunedo_eme2_decipher(sheet_key, sizeof sheet_key, lead,
-                                    sizeof lead, message, sizeof message);
-    show_text("deciphered", message);
-    good &= as_said(answer, LAGUNEDO_DONE, message, text, TEXT);
-
-    /* A key cut short: the call answers a number and touches nothing. */
-    answer = lagunedo_eme2_encipher(sheet_key, 47, lead, sizeof lead, message,
-                                    sizeof message);
-    printf("a key of 47 bytes is refused with number %u; the text stays:\n",
-           (unsigned)answer);
-    show_text("text", message);
-    good &= as_said(answer, LAGUNEDO_KEY_LENGTH, message, text, TEXT);
-    return good;
+    printf("read %u    ", (unsigned)sheet);
+    if (done(lagunedo_read(old_key, sizeof old_key, new_key, sizeof new_key,
+                           store, sizeof store, sheet, text, sizeof text,
+                           &length, &revision))) {
+        printf("revision %u: %.*s\n", (unsigned)revision, (int)length,
+               (const char *)text);
+        good &= length == strlen(wanted) && memcmp(text, wanted, length) == 0;
+    }
+    return revision;
 }
 
-static int one_block(void)
+static uint32_t revise(uint32_t sheet, uint32_t seen, const char *text)
 {
-    uint8_t block[16];
-    uint32_t answer;
-    int good;
+    uint32_t revision, number;
 
-    printf("AES alone, one block under a key of 16 bytes\n");
-    memcpy(block, plain, sizeof block);
-    show("key", key, sizeof key);
-    show("block", block, sizeof block);
+    printf("revise %u  ", (unsigned)sheet);
+    number = lagunedo_revise(old_key, sizeof old_key, new_key, sizeof new_key,
+                             store, sizeof store, sheet, seen,
+                             (const uint8_t *)text, strlen(text), &revision);
+    if (number == LAGUNEDO_OTHER_REVISION)
+        printf("refused with %u: revision %u is not the stored one\n",
+               (unsigned)number, (unsigned)seen);
+    else if (done(number))
+        printf("revision %u\n", (unsigned)revision);
+    return number;
+}
 
-    answer = lagunedo_aes_encipher(key, sizeof key, block, sizeof block);
-    show("enciphered", block, sizeof block);
-    good = as_said(answer, LAGUNEDO_DONE, block, enciphered, sizeof block);
+/* The job from place 0 until it is done, one slot a step. */
+static void rekey(void)
+{
+    static const char *const names[] = { "done", "free", "damaged", "already",
+                                         "converted" };
+    struct lagunedo_job job = { 0 };
+    uint32_t outcome;
 
-    answer = lagunedo_aes_decipher(key, sizeof key, block, sizeof block);
-    show("deciphered", block, sizeof block);
-    good &= as_said(answer, LAGUNEDO_DONE, block, plain, sizeof block);
-
-    answer = lagunedo_aes_encipher(key, 15, block, sizeof block);
-    printf("a key of 15 bytes is refused with number %u; the block stays:\n",
-           (unsigned)answer);
-    show("block", block, sizeof block);
-    good &= as_said(answer, LAGUNEDO_KEY_LENGTH, block, plain, sizeof block);
-    return good;
+    do {
+        printf("step        place %u ", (unsigned)job.place);
+        if (!done(lagunedo_job_step(&job, old_key, sizeof old_key, new_key,
+                                    sizeof new_key, store, sizeof store,
+                                    &outcome)))
+            return;
+        printf("%s\n", names[outcome]);
+    } while (outcome != LAGUNEDO_STEP_DONE);
 }
 
 int main(void)
 {
-    int good = sheet();
+    uint32_t seen;
 
-    printf("\n");
-    good &= one_block();
+    make_keys();
+    found();
+    check(1, 1);
+
+    add(401, "PRESS 2 BLUE, DRY 20 MIN");
+    add(402, "PRESS 3 GREY, STACK LOW");
+
+    /* Two operators see the same revision. The second to send is late. */
+    seen = read_sheet(401, "PRESS 2 BLUE, DRY 20 MIN");
+    good &= revise(401, seen, "PRESS 2 BLUE, DRY 35 MIN") == LAGUNEDO_DONE;
+    good &= revise(401, seen, "PRESS 2 RED, DRY 20 MIN") ==
+            LAGUNEDO_OTHER_REVISION;
+    read_sheet(401, "PRESS 2 BLUE, DRY 35 MIN");
+
+    check(1, 1);
+    rekey();
+    check(0, 0);
+    read_sheet(305, "PRESS 4 HOLD 5AM");
+    read_sheet(306, "PRESS 1 HEAVY BOARD 3X");
+
     if (!good) {
         fprintf(stderr, "example: the library did not do as it says\n");
         return 1;

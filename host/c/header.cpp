@@ -36,3 +36,57 @@ uint32_t eme2_from_cpp(const uint8_t *key, const uint8_t *lead,
         return LAGUNEDO_DATA_LENGTH;
     return lagunedo_eme2_decipher(nullptr, 0, nullptr, 0, nullptr, 0);
 }
+
+uint32_t store_from_cpp(const uint8_t *key, uint8_t *store, size_t length,
+                        uint8_t *text)
+{
+    uint32_t (*own_check)(const uint8_t *, size_t, uint32_t *, uint32_t *,
+                          uint32_t *, uint32_t *, uint32_t *, uint32_t *) =
+        lagunedo_check;
+    uint32_t (*own_remove)(uint8_t *, size_t, uint32_t) = lagunedo_remove;
+    uint32_t fault, used, free, clear, old_key, new_key, size, revision;
+
+    if (own_check(store, length, &fault, &used, &free, &clear, &old_key,
+                  &new_key) == LAGUNEDO_FAULT)
+        return fault;
+    if (::lagunedo_check(nullptr, 0, &fault, &used, &free, &clear, &old_key,
+                         &new_key) != LAGUNEDO_DONE)
+        return LAGUNEDO_STORE_LENGTH;
+    if ((lagunedo_add)(key, 48, key, 48, store, length, 305, text,
+                       LAGUNEDO_TEXT_LEAST, &revision) != LAGUNEDO_DONE)
+        return LAGUNEDO_SHEET_PRESENT;
+    if (lagunedo_add(key, 48, key, 48, store, length, 306, nullptr, 0,
+                     &revision) != LAGUNEDO_TEXT_LENGTH)
+        return LAGUNEDO_TEXT_LENGTH;
+    if (lagunedo_revise(key, 48, key, 48, store, length, 305, revision, text,
+                        LAGUNEDO_TEXT_LEAST, &revision) != LAGUNEDO_DONE)
+        return LAGUNEDO_OTHER_REVISION;
+    if (lagunedo_read(key, 48, key, 48, store, length, 305, nullptr, 0, &size,
+                      &revision) != LAGUNEDO_BUFFER_LENGTH)
+        return LAGUNEDO_BUFFER_LENGTH;
+    if (own_remove(store, length, 305) != LAGUNEDO_DONE)
+        return LAGUNEDO_NO_SHEET;
+    return lagunedo_remove(nullptr, 0, 305);
+}
+
+uint32_t job_from_cpp(const uint8_t *key, uint8_t *store, size_t length)
+{
+    uint32_t (*own)(lagunedo_job *, const uint8_t *, size_t, const uint8_t *,
+                    size_t, uint8_t *, size_t, uint32_t *) =
+        lagunedo_job_step;
+    lagunedo_job job = { 0 };
+    uint64_t place = 0;
+    uint32_t outcome = LAGUNEDO_STEP_FREE;
+
+    while (outcome != LAGUNEDO_STEP_DONE)
+        if (own(&job, key, 64, key, 64, store, length, &outcome) !=
+            LAGUNEDO_DONE)
+            return LAGUNEDO_KEY_LENGTH;
+    if (::lagunedo_job_step(&job, key, 64, nullptr, 0, store, length,
+                            &outcome) != LAGUNEDO_KEY_LENGTH)
+        return LAGUNEDO_KEY_LENGTH;
+    if ((lagunedo_step)(key, 64, key, 64, store, length, &place, &outcome) !=
+        LAGUNEDO_DONE)
+        return LAGUNEDO_KEY_LENGTH;
+    return lagunedo_step(key, 64, key, 64, nullptr, 0, &place, &outcome);
+}

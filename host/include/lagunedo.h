@@ -2,33 +2,45 @@
  * Lagunedo: the calls for a job server written in C.
  *
  * This header is the manual. It holds AES-128 and AES-256, one block at a
- * time, as FIPS 197 defines them, and EME2-AES, which enciphers whole
- * messages, as source document 000 defines it. The sheet store comes later
- * in this same header; the calls below stay as they are.
+ * time, as FIPS 197 defines them; EME2-AES, which enciphers whole messages,
+ * as source document 000 defines it; and the sheet store with its rekeying
+ * job, as 01 defines them.
  *
  *
  * What holds for every call
  *
  * Byte strings are lent as a pointer followed by their length in bytes. They
- * need no alignment. A buffer that a call overwrites must not overlap another
- * one lent to it, not even in one byte; those that are only read may. NULL is
- * allowed where the length is 0, and nowhere else.
+ * need no alignment. NULL is allowed where the length is 0, and nowhere else.
+ *
+ * What a call gives beside the number it returns is written behind pointers
+ * to the caller's own uint32_t, uint64_t or struct lagunedo_job. These are
+ * aligned as their type asks, and never NULL.
+ *
+ * Memory that a call overwrites must not overlap any other lent to it, not
+ * even in one byte; what is only read may.
  *
  * A call returns LAGUNEDO_DONE (0), or one number that says why it refused.
  * Its refusals are tested in the order listed with the call, and the first
  * that applies is the number returned. A refused call leaves every lent byte
- * as it was.
+ * as it was, those behind pointers included. One number is no refusal:
+ * LAGUNEDO_FAULT, with which lagunedo_check names a slot.
  *
  * A call keeps no state and no pointer to lent memory after it returns, and
  * allocates nothing. It may run in several threads at once, provided that no
  * thread writes to a buffer that another is using; threads may share a key.
+ * So calls that write to a store run one at a time on that store, with no
+ * other call on it meanwhile, and the host sees to that.
  *
  *
  * What is not offered
  *
  * The cipher does not detect forgery. Deciphering bytes that were changed,
  * or deciphering under a wrong key or with wrong associated data, returns 0
- * and gives other bytes.
+ * and gives other bytes. The store does not detect it either: what
+ * lagunedo_check finds is faults of layout.
+ *
+ * A call is whole. What a store holds after a call that was cut off half way,
+ * as by a loss of power, is not said.
  *
  * The time a call takes is not claimed to be independent of its input: AES
  * reads tables at places that depend on the key and on the data.
@@ -48,20 +60,47 @@ extern "C" {
 #endif
 
 /*
- * The numbers returned. Later calls add 4 to 14, and no number changes its
- * meaning.
+ * The numbers returned. 1 to 14 are those of 01, and none changes its meaning.
  *
  * LAGUNEDO_DONE            the call did its work
  * LAGUNEDO_KEY_LENGTH      a key has a length that the call does not take
  * LAGUNEDO_MESSAGE_LENGTH  the message has a length that the call does not
  *                          take; for AES alone the message is the block
  * LAGUNEDO_DATA_LENGTH     the associated data is longer than the call takes
+ * LAGUNEDO_STORE_LENGTH    the store is not a whole number of records, or has
+ *                          more than 1,024
+ * LAGUNEDO_SHEET_ZERO      sheet number 0 was asked for
+ * LAGUNEDO_TEXT_LENGTH     the text is below 16 or above 2,096 bytes
+ * LAGUNEDO_NO_SHEET        no slot has the sheet number
+ * LAGUNEDO_OTHER_REVISION  the revision named is not the stored one
+ * LAGUNEDO_LAST_REVISION   the stored revision is 65,535
+ * LAGUNEDO_NO_FREE_SLOT    no slot has sheet number 0
+ * LAGUNEDO_SHEET_PRESENT   the sheet number is already in a slot
+ * LAGUNEDO_SLOT_UNSOUND    the slot found is unsound
+ * LAGUNEDO_BUFFER_LENGTH   the lent buffer is shorter than the text
+ * LAGUNEDO_LENGTH_CHANGED  the text length changed in deciphering; it stands
+ *                          in 01's table and is never returned, since
+ *                          deciphering keeps the length
+ *
+ * LAGUNEDO_FAULT           no refusal: lagunedo_check found a faulty slot
  */
 enum lagunedo_number {
     LAGUNEDO_DONE = 0,
     LAGUNEDO_KEY_LENGTH = 1,
     LAGUNEDO_MESSAGE_LENGTH = 2,
-    LAGUNEDO_DATA_LENGTH = 3
+    LAGUNEDO_DATA_LENGTH = 3,
+    LAGUNEDO_STORE_LENGTH = 4,
+    LAGUNEDO_SHEET_ZERO = 5,
+    LAGUNEDO_TEXT_LENGTH = 6,
+    LAGUNEDO_NO_SHEET = 7,
+    LAGUNEDO_OTHER_REVISION = 8,
+    LAGUNEDO_LAST_REVISION = 9,
+    LAGUNEDO_NO_FREE_SLOT = 10,
+    LAGUNEDO_SHEET_PRESENT = 11,
+    LAGUNEDO_SLOT_UNSOUND = 12,
+    LAGUNEDO_BUFFER_LENGTH = 13,
+    LAGUNEDO_LENGTH_CHANGED = 14,
+    LAGUNEDO_FAULT = 256
 };
 
 /*
@@ -119,8 +158,7 @@ uint32_t lagunedo_aes_decipher(const uint8_t *key, size_t key_length,
  * The associated data is not part of the result, and deciphering needs the
  * same again. Equal messages under one key with equal associated data give
  * equal results, so the associated data should name the sheet, as the
- * 16-byte lead of a stored sheet does by its number and revision (01, "The
- * store").
+ * 16-byte lead of a stored sheet does by its number and revision.
  */
 uint32_t lagunedo_eme2_encipher(const uint8_t *key, size_t key_length,
                                 const uint8_t *ad, size_t ad_length,
@@ -138,6 +176,360 @@ uint32_t lagunedo_eme2_encipher(const uint8_t *key, size_t key_length,
 uint32_t lagunedo_eme2_decipher(const uint8_t *key, size_t key_length,
                                 const uint8_t *ad, size_t ad_length,
                                 uint8_t *message, size_t message_length);
+
+/*
+ * The sheet store
+ *
+ * A store is a lent buffer of 0 to 1,024 records of 2,112 bytes, one a slot,
+ * with nothing before, between or after them. Slots are counted from 0. All
+ * zeros is a store whose slots are free, and a new store is made so. Numbers
+ * in a record are little-endian.
+ *
+ *   bytes    field
+ *   0-3      sheet number; 0 means the slot is free
+ *   4-5      revision, 1 to 65,535
+ *   6        mark: 0 clear, 1 old key, 2 new key
+ *   7        0
+ *   8-9      text length, 16 to 2,096
+ *   10-15    0
+ *   16-2111  text, zeros after its length
+ *
+ * Bytes 0 to 15 are the lead. Under mark 1 or 2 the stored text is enciphered
+ * with EME2-AES under that key with the whole lead, as stored, for associated
+ * data. In clear it is the text itself. A free slot is sound if all 2,112
+ * bytes are 0. A used slot is sound if every field is as tabled. A store is
+ * sound if each slot is, and no sheet number other than 0 stands twice.
+ *
+ *
+ * The two keys
+ *
+ * Reading, adding, revising and stepping take the old key and the new key,
+ * and test the length of both, whichever of them the slot needs. Each is 48
+ * or 64 bytes, and the two may differ in length. A text is deciphered under
+ * the key that its mark names. A text is written under the new key alone.
+ * Where there is only one key, it may be lent as both.
+ *
+ * Nothing shows that a key is the wrong one. Reading then gives other bytes,
+ * and a step that converts a text stores other bytes in its place.
+ *
+ *
+ * A store that is not sound
+ *
+ * The calls below keep a sound store sound. Bytes changed by others may not,
+ * and then the calls do as follows. Those by sheet number look at the slot
+ * they find and at no other's soundness.
+ *
+ * A used slot that is unsound: lagunedo_read and lagunedo_revise refuse it
+ * with LAGUNEDO_SLOT_UNSOUND, and lagunedo_add refuses its sheet number with
+ * LAGUNEDO_SHEET_PRESENT. A step calls it damaged, whatever its mark, and
+ * keeps it. lagunedo_remove zeros it, and the sheet can then be added anew.
+ *
+ * Sheet number 0 with any other byte set: lagunedo_check faults the slot, but
+ * lagunedo_add takes it for a free one and writes all its bytes. A step calls
+ * it free and keeps it.
+ *
+ * A sheet number that stands in several slots: lagunedo_check faults each but
+ * the lowest. The calls by sheet number take the lowest, and reach the next
+ * only once that is removed. A step goes by its place and converts each.
+ *
+ *
+ * A call made again
+ *
+ * A server that has lost an answer cannot tell whether its call had run, and
+ * may make the same call again. "Made again" below says what it then gets if
+ * the first had run and returned LAGUNEDO_DONE. If the first was refused or
+ * never ran, nothing had changed, and the call is simply made.
+ */
+enum lagunedo_size {
+    LAGUNEDO_RECORD_SIZE = 2112,
+    LAGUNEDO_LEAD_SIZE = 16,
+    LAGUNEDO_SLOT_LIMIT = 1024,
+    LAGUNEDO_TEXT_LEAST = 16,
+    LAGUNEDO_TEXT_MOST = 2096
+};
+
+/* The marks, byte 6 of a record. */
+enum lagunedo_mark {
+    LAGUNEDO_MARK_CLEAR = 0,
+    LAGUNEDO_MARK_OLD_KEY = 1,
+    LAGUNEDO_MARK_NEW_KEY = 2
+};
+
+/*
+ * Looks for the lowest faulty slot, or else counts the slots. A slot is
+ * faulty if it is unsound or repeats a lower slot's sheet number other than 0.
+ *
+ *   store, store_length      0 to 1,024 records of 2,112 bytes; read
+ *   fault                    the lowest faulty slot; written only with
+ *                            LAGUNEDO_FAULT
+ *   used, free               how many slots are used, and how many free
+ *   clear, old_key, new_key  how many of the used have mark 0, 1 and 2
+ *                            (these five are written only with
+ *                            LAGUNEDO_DONE)
+ *
+ * Refusal:
+ *   LAGUNEDO_STORE_LENGTH    store_length is not a multiple of 2,112, or is
+ *                            above 1,024 times that
+ *
+ * Other answers:
+ *   LAGUNEDO_FAULT           a slot is faulty: *fault is the lowest such, and
+ *                            the five counts are kept
+ *   LAGUNEDO_DONE            the store is sound: the five counts are written,
+ *                            and *fault is kept
+ *
+ * The used and the free add up to the number of slots, and the three marks to
+ * the used. An empty store is sound and gives five zeros. The store is never
+ * written.
+ *
+ * What is found is faults of layout, no more. The call takes no key and
+ * deciphers nothing, so it does not see that a text was changed, nor that a
+ * lead was changed to another that is as tabled, nor that an older store was
+ * put in the place of this one.
+ *
+ * Made again: the same, as long as the store is.
+ */
+uint32_t lagunedo_check(const uint8_t *store, size_t store_length,
+                        uint32_t *fault, uint32_t *used, uint32_t *free,
+                        uint32_t *clear, uint32_t *old_key,
+                        uint32_t *new_key);
+
+/*
+ * Reads a sheet: its text in clear, its length and its revision.
+ *
+ *   old_key, old_key_length  48 or 64 bytes; read
+ *   new_key, new_key_length  48 or 64 bytes; read
+ *   store, store_length      0 to 1,024 records of 2,112 bytes; read
+ *   sheet                    the sheet number, not 0
+ *   text, text_length        a buffer at least as long as the sheet's text;
+ *                            the text is written to its front, and the rest
+ *                            of it is kept
+ *   length                   the text's length; written
+ *   revision                 the stored revision; written
+ *
+ * Refusals, in this order:
+ *   LAGUNEDO_KEY_LENGTH      old_key_length or new_key_length is neither 48
+ *                            nor 64
+ *   LAGUNEDO_STORE_LENGTH    store_length is not a multiple of 2,112, or is
+ *                            above 1,024 times that
+ *   LAGUNEDO_SHEET_ZERO      sheet is 0
+ *   LAGUNEDO_NO_SHEET        no slot has the sheet number
+ *   LAGUNEDO_SLOT_UNSOUND    the lowest slot that has it is unsound
+ *   LAGUNEDO_BUFFER_LENGTH   text_length is below the stored text length
+ *
+ * LAGUNEDO_LENGTH_CHANGED would come last and does not occur.
+ *
+ * A buffer of 2,096 bytes is long enough for every sheet. The store is never
+ * written, and no more of the buffer than the text's length.
+ *
+ * Made again: the same, as long as the store is.
+ */
+uint32_t lagunedo_read(const uint8_t *old_key, size_t old_key_length,
+                       const uint8_t *new_key, size_t new_key_length,
+                       const uint8_t *store, size_t store_length,
+                       uint32_t sheet, uint8_t *text, size_t text_length,
+                       uint32_t *length, uint32_t *revision);
+
+/*
+ * Adds a sheet that the store does not have yet, at revision 1, enciphered
+ * under the new key.
+ *
+ *   old_key, old_key_length  48 or 64 bytes; only the length matters
+ *   new_key, new_key_length  48 or 64 bytes; read
+ *   store, store_length      0 to 1,024 records of 2,112 bytes; one slot is
+ *                            written
+ *   sheet                    the sheet number, not 0
+ *   text, text_length        the text, 16 to 2,096 bytes; read
+ *   revision                 the revision now stored, 1; written
+ *
+ * Refusals, in this order:
+ *   LAGUNEDO_KEY_LENGTH      old_key_length or new_key_length is neither 48
+ *                            nor 64
+ *   LAGUNEDO_STORE_LENGTH    store_length is not a multiple of 2,112, or is
+ *                            above 1,024 times that
+ *   LAGUNEDO_SHEET_ZERO      sheet is 0
+ *   LAGUNEDO_TEXT_LENGTH     text_length is below 16 or above 2,096
+ *   LAGUNEDO_SHEET_PRESENT   a slot has the sheet number
+ *   LAGUNEDO_NO_FREE_SLOT    no slot has sheet number 0
+ *
+ * The slot written is the lowest whose sheet number is 0, so one freed by a
+ * removal is used again. All its bytes are written: the lead with mark 2, the
+ * enciphered text, zeros after it. Every other slot is kept.
+ *
+ * Made again: LAGUNEDO_SHEET_PRESENT, as long as the sheet is there. It is
+ * the answer too where somebody else added the sheet; reading the sheet tells
+ * which. If the sheet was removed since, it is added once more.
+ */
+uint32_t lagunedo_add(const uint8_t *old_key, size_t old_key_length,
+                      const uint8_t *new_key, size_t new_key_length,
+                      uint8_t *store, size_t store_length, uint32_t sheet,
+                      const uint8_t *text, size_t text_length,
+                      uint32_t *revision);
+
+/*
+ * Replaces the text of a sheet whole, if the sheet still is at the revision
+ * that the operator saw.
+ *
+ *   old_key, old_key_length  48 or 64 bytes; only the length matters
+ *   new_key, new_key_length  48 or 64 bytes; read
+ *   store, store_length      0 to 1,024 records of 2,112 bytes; one slot is
+ *                            written
+ *   sheet                    the sheet number, not 0
+ *   seen                     the revision that the operator saw; any number
+ *                            may be given, and one above 65,535 is never the
+ *                            stored one
+ *   text, text_length        the new text, 16 to 2,096 bytes; read
+ *   revision                 the revision now stored, seen + 1; written
+ *
+ * Refusals, in this order:
+ *   LAGUNEDO_KEY_LENGTH      old_key_length or new_key_length is neither 48
+ *                            nor 64
+ *   LAGUNEDO_STORE_LENGTH    store_length is not a multiple of 2,112, or is
+ *                            above 1,024 times that
+ *   LAGUNEDO_SHEET_ZERO      sheet is 0
+ *   LAGUNEDO_TEXT_LENGTH     text_length is below 16 or above 2,096
+ *   LAGUNEDO_NO_SHEET        no slot has the sheet number
+ *   LAGUNEDO_SLOT_UNSOUND    the lowest slot that has it is unsound
+ *   LAGUNEDO_OTHER_REVISION  seen is not the stored revision
+ *   LAGUNEDO_LAST_REVISION   the stored revision is 65,535
+ *
+ * The slot gets a revision one higher, mark 2 whatever its mark was, the new
+ * text enciphered under the new key, and zeros after it. Every other slot is
+ * kept.
+ *
+ * Made again: LAGUNEDO_OTHER_REVISION, as long as the sheet is there and its
+ * slot sound, since the stored revision is now above seen and never falls. It
+ * is the answer too where somebody else revised the sheet first; reading the
+ * sheet tells which. Once the sheet was removed, it is LAGUNEDO_NO_SHEET.
+ *
+ * A removal ends this protection. A sheet added anew under its old number
+ * starts at revision 1 again, so a late revision is accepted if it names the
+ * revision that the new sheet has by then. A server for which that matters
+ * gives a removed sheet's number to no other.
+ */
+uint32_t lagunedo_revise(const uint8_t *old_key, size_t old_key_length,
+                         const uint8_t *new_key, size_t new_key_length,
+                         uint8_t *store, size_t store_length, uint32_t sheet,
+                         uint32_t seen, const uint8_t *text,
+                         size_t text_length, uint32_t *revision);
+
+/*
+ * Removes a sheet: zeros all bytes of its slot, sound or not.
+ *
+ *   store, store_length      0 to 1,024 records of 2,112 bytes; one slot is
+ *                            written
+ *   sheet                    the sheet number, not 0
+ *
+ * Refusals, in this order:
+ *   LAGUNEDO_STORE_LENGTH    store_length is not a multiple of 2,112, or is
+ *                            above 1,024 times that
+ *   LAGUNEDO_SHEET_ZERO      sheet is 0
+ *   LAGUNEDO_NO_SHEET        no slot has the sheet number
+ *
+ * No key is needed, and no revision is named. Every other slot is kept.
+ *
+ * Made again: LAGUNEDO_NO_SHEET. But if the number was added anew since, the
+ * new sheet is removed, and if the number stood in several slots, the next of
+ * them is zeroed.
+ */
+uint32_t lagunedo_remove(uint8_t *store, size_t store_length, uint32_t sheet);
+
+/*
+ * The rekeying job
+ *
+ * The job brings every sheet under the new key, one slot a step. It is no
+ * more than a place, the slot that the next step works on. A new copy of the
+ * job starts at place 0, and steps follow until one answers
+ * LAGUNEDO_STEP_DONE:
+ *
+ *   struct lagunedo_job job = { 0 };
+ *   uint32_t outcome;
+ *
+ *   do
+ *       number = lagunedo_job_step(&job, ..., &outcome);
+ *   while (number == LAGUNEDO_DONE && outcome != LAGUNEDO_STEP_DONE);
+ *
+ * Other calls may run between two steps, and several copies of the job, each
+ * from place 0 with the same two keys, may be interleaved: whole calls, one
+ * at a time on one store. A slot that one copy converted is already so for
+ * the others. Adding and revising write mark 2, so no slot behind a place
+ * falls back.
+ *
+ * When one copy is done, each slot is free, or has mark 2, or is damaged, as
+ * long as nothing but these calls changed the store meanwhile. The damaged
+ * ones are as they were found, perhaps in clear or under the old key. If
+ * lagunedo_check then returns LAGUNEDO_DONE, there are none, and it counts 0
+ * clear and 0 under the old key.
+ *
+ * The outcomes of a step, in the order in which they are tested:
+ *
+ * LAGUNEDO_STEP_DONE       the place is at or past the number of slots:
+ *                          nothing changes, and the place stays, however
+ *                          large it is
+ * LAGUNEDO_STEP_FREE       the slot's sheet number is 0; the slot is kept
+ * LAGUNEDO_STEP_DAMAGED    the slot is used and unsound, whatever its mark;
+ *                          it is kept
+ * LAGUNEDO_STEP_ALREADY    the slot has mark 2; it is kept
+ * LAGUNEDO_STEP_CONVERTED  the slot had mark 0 or 1: its text was read, the
+ *                          mark is now 2, and the text is enciphered under
+ *                          the new key with the new lead; sheet number,
+ *                          revision and length stay
+ */
+enum lagunedo_outcome {
+    LAGUNEDO_STEP_DONE = 0,
+    LAGUNEDO_STEP_FREE = 1,
+    LAGUNEDO_STEP_DAMAGED = 2,
+    LAGUNEDO_STEP_ALREADY = 3,
+    LAGUNEDO_STEP_CONVERTED = 4
+};
+
+/*
+ * One step of the rekeying job, on the slot at the job's place.
+ *
+ *   old_key, old_key_length  48 or 64 bytes; read
+ *   new_key, new_key_length  48 or 64 bytes; read
+ *   store, store_length      0 to 1,024 records of 2,112 bytes; the slot at
+ *                            the place is read, and written if converted
+ *   place                    the job's place; read, then moved on by one
+ *                            unless the outcome is LAGUNEDO_STEP_DONE
+ *   outcome                  the outcome; written
+ *
+ * Refusals, in this order:
+ *   LAGUNEDO_KEY_LENGTH      old_key_length or new_key_length is neither 48
+ *                            nor 64
+ *   LAGUNEDO_STORE_LENGTH    store_length is not a multiple of 2,112, or is
+ *                            above 1,024 times that
+ *
+ * Every byte of the other slots is kept. An empty store is done at once.
+ *
+ * Made again: the place has moved on, so the next slot is worked on, and no
+ * slot is left out: the one before it had its step. A place that was put back
+ * or lost harms nothing either, since a slot that was converted is then
+ * LAGUNEDO_STEP_ALREADY and kept.
+ */
+uint32_t lagunedo_step(const uint8_t *old_key, size_t old_key_length,
+                       const uint8_t *new_key, size_t new_key_length,
+                       uint8_t *store, size_t store_length, uint64_t *place,
+                       uint32_t *outcome);
+
+/* A copy of the rekeying job. A new one is { 0 }. */
+struct lagunedo_job {
+    uint64_t place;
+};
+
+/*
+ * One step of the rekeying job: lagunedo_step on job->place.
+ *
+ *   job                      the copy of the job; its place is read, then
+ *                            moved on by one unless the outcome is
+ *                            LAGUNEDO_STEP_DONE
+ *
+ * The other parameters, the refusals, the outcomes and what it gets when made
+ * again are those of lagunedo_step.
+ */
+uint32_t lagunedo_job_step(struct lagunedo_job *job, const uint8_t *old_key,
+                           size_t old_key_length, const uint8_t *new_key,
+                           size_t new_key_length, uint8_t *store,
+                           size_t store_length, uint32_t *outcome);
 
 /*
  * NULL with length 0
@@ -211,11 +603,98 @@ static inline uint32_t lagunedo_lent_eme2_decipher(const uint8_t *key,
         lagunedo_lent_out(message, message_length), message_length);
 }
 
+static inline uint32_t lagunedo_lent_check(const uint8_t *store,
+                                           size_t store_length,
+                                           uint32_t *fault, uint32_t *used,
+                                           uint32_t *free, uint32_t *clear,
+                                           uint32_t *old_key,
+                                           uint32_t *new_key)
+{
+    return lagunedo_check(lagunedo_lent_in(store, store_length), store_length,
+                          fault, used, free, clear, old_key, new_key);
+}
+
+static inline uint32_t lagunedo_lent_read(
+    const uint8_t *old_key, size_t old_key_length, const uint8_t *new_key,
+    size_t new_key_length, const uint8_t *store, size_t store_length,
+    uint32_t sheet, uint8_t *text, size_t text_length, uint32_t *length,
+    uint32_t *revision)
+{
+    return lagunedo_read(
+        lagunedo_lent_in(old_key, old_key_length), old_key_length,
+        lagunedo_lent_in(new_key, new_key_length), new_key_length,
+        lagunedo_lent_in(store, store_length), store_length, sheet,
+        lagunedo_lent_out(text, text_length), text_length, length, revision);
+}
+
+static inline uint32_t lagunedo_lent_add(
+    const uint8_t *old_key, size_t old_key_length, const uint8_t *new_key,
+    size_t new_key_length, uint8_t *store, size_t store_length,
+    uint32_t sheet, const uint8_t *text, size_t text_length,
+    uint32_t *revision)
+{
+    return lagunedo_add(
+        lagunedo_lent_in(old_key, old_key_length), old_key_length,
+        lagunedo_lent_in(new_key, new_key_length), new_key_length,
+        lagunedo_lent_out(store, store_length), store_length, sheet,
+        lagunedo_lent_in(text, text_length), text_length, revision);
+}
+
+static inline uint32_t lagunedo_lent_revise(
+    const uint8_t *old_key, size_t old_key_length, const uint8_t *new_key,
+    size_t new_key_length, uint8_t *store, size_t store_length,
+    uint32_t sheet, uint32_t seen, const uint8_t *text, size_t text_length,
+    uint32_t *revision)
+{
+    return lagunedo_revise(
+        lagunedo_lent_in(old_key, old_key_length), old_key_length,
+        lagunedo_lent_in(new_key, new_key_length), new_key_length,
+        lagunedo_lent_out(store, store_length), store_length, sheet, seen,
+        lagunedo_lent_in(text, text_length), text_length, revision);
+}
+
+static inline uint32_t lagunedo_lent_remove(uint8_t *store,
+                                            size_t store_length,
+                                            uint32_t sheet)
+{
+    return lagunedo_remove(lagunedo_lent_out(store, store_length),
+                           store_length, sheet);
+}
+
+static inline uint32_t lagunedo_lent_step(
+    const uint8_t *old_key, size_t old_key_length, const uint8_t *new_key,
+    size_t new_key_length, uint8_t *store, size_t store_length,
+    uint64_t *place, uint32_t *outcome)
+{
+    return lagunedo_step(
+        lagunedo_lent_in(old_key, old_key_length), old_key_length,
+        lagunedo_lent_in(new_key, new_key_length), new_key_length,
+        lagunedo_lent_out(store, store_length), store_length, place, outcome);
+}
+
+static inline uint32_t lagunedo_lent_job_step(
+    struct lagunedo_job *job, const uint8_t *old_key, size_t old_key_length,
+    const uint8_t *new_key, size_t new_key_length, uint8_t *store,
+    size_t store_length, uint32_t *outcome)
+{
+    return lagunedo_job_step(
+        job, lagunedo_lent_in(old_key, old_key_length), old_key_length,
+        lagunedo_lent_in(new_key, new_key_length), new_key_length,
+        lagunedo_lent_out(store, store_length), store_length, outcome);
+}
+
 /* Variadic, so that an argument may be a compound literal with commas. */
 #define lagunedo_aes_encipher(...) lagunedo_lent_aes_encipher(__VA_ARGS__)
 #define lagunedo_aes_decipher(...) lagunedo_lent_aes_decipher(__VA_ARGS__)
 #define lagunedo_eme2_encipher(...) lagunedo_lent_eme2_encipher(__VA_ARGS__)
 #define lagunedo_eme2_decipher(...) lagunedo_lent_eme2_decipher(__VA_ARGS__)
+#define lagunedo_check(...) lagunedo_lent_check(__VA_ARGS__)
+#define lagunedo_read(...) lagunedo_lent_read(__VA_ARGS__)
+#define lagunedo_add(...) lagunedo_lent_add(__VA_ARGS__)
+#define lagunedo_revise(...) lagunedo_lent_revise(__VA_ARGS__)
+#define lagunedo_remove(...) lagunedo_lent_remove(__VA_ARGS__)
+#define lagunedo_step(...) lagunedo_lent_step(__VA_ARGS__)
+#define lagunedo_job_step(...) lagunedo_lent_job_step(__VA_ARGS__)
 
 #ifdef __cplusplus
 }

@@ -4,11 +4,22 @@ ghost use mathlib.Core.Bool.{true, false};
 ghost use mathlib.Core.Path.{_≡_};
 ghost use Rattle.aes.specs.Calls.{paper};
 ghost use Rattle.lagunedo.specs.Calls.{AesCalled, Eme2Called};
+// What the store's calls answer, by value.
+mod answers;
 // 01's numbers of EME2's answers.
 mod messages;
+// The store's calls.
+mod sheets;
 
 use aes::Answer;
 use messages::eme2_number;
+
+pub use sheets::lagunedo_add;
+pub use sheets::lagunedo_check;
+pub use sheets::lagunedo_read;
+pub use sheets::lagunedo_remove;
+pub use sheets::lagunedo_revise;
+pub use sheets::lagunedo_step;
 
 // Overwrites the block with its encipherment under the key; 1, 2.
 #[no_mangle]

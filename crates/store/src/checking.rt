@@ -17,15 +17,15 @@ pub fn check(store: &[u8]) -> Checked
     }
     let k = first_fault(store);
     if k < count(store) {
-        return Checked::Fault(k);
+        return Checked::Fault(k as u32);
     }
     let n = used_slots(store);
     Checked::Counts {
-        used: n,
-        free: count(store) - n,
-        clear: marked_slots(store, 0),
-        old: marked_slots(store, 1),
-        new: marked_slots(store, 2),
+        used: n as u32,
+        free: (count(store) - n) as u32,
+        clear: marked_slots(store, 0) as u32,
+        old: marked_slots(store, 1) as u32,
+        new: marked_slots(store, 2) as u32,
     }
 }
 

@@ -47,19 +47,19 @@ pub enum Plan {
 // What check answers: the five counts of a sound store, or the lowest faulty slot.
 pub enum Checked {
     Counts {
-        used: usize,
-        free: usize,
-        clear: usize,
-        old: usize,
-        new: usize,
+        used: u32,
+        free: u32,
+        clear: u32,
+        old: u32,
+        new: u32,
     },
-    Fault(usize),
+    Fault(u32),
     Refused(Refusal),
 }
 
 // What read answers.
 pub enum Text {
-    Read { length: usize, revision: u32 },
+    Read { length: u32, revision: u32 },
     Refused(Refusal),
 }
 

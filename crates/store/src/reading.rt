@@ -37,5 +37,5 @@ fn read_slot(old: &[u8], new: &[u8], store: &[u8], k: usize, text: &mut [u8]) ->
     let l = slots::text_length(&store[at..end]);
     let v = slots::revision(&store[at..end]);
     slots::take_text(&store[at..end], old, new, text);
-    Text::Read { length: l, revision: v }
+    Text::Read { length: l as u32, revision: v }
 }

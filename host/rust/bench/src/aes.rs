@@ -1,7 +1,8 @@
 //! AES by itself, beside a plain one in C.
 
 use crate::plain;
-use crate::row::{Judge, Row};
+use crate::row::{Judge, Row, Unit};
+use inputs::Random;
 
 /// A sheet's text and its lead fit in this; it is also a common page.
 const BUFFER: usize = 4096;
@@ -16,7 +17,8 @@ pub fn rows() -> Vec<Row> {
             rows.push(Row {
                 call: format!("{name} {way}, {BUFFER} bytes"),
                 peer: "plain C".to_owned(),
-                length: BUFFER,
+                unit: Unit::Byte(BUFFER),
+                buffer: Random::new(BUFFER as u64).bytes(BUFFER),
                 library: Box::new(move |b| probe::aes_blocks(&key, back, b).expect("a good key")),
                 against: Box::new(move |b| plain::aes_blocks(&same_key, back, b)),
                 judge: Judge::Peer,

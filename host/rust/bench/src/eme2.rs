@@ -1,7 +1,8 @@
 //! EME2-AES as the job server calls it, the setting up of the key included,
 //! beside peers.
 
-use crate::row::{Call, Judge, Row};
+use crate::row::{Call, Judge, Row, Unit};
+use inputs::Random;
 
 /// A disk's sector, a sheet's longest text, the longest message. All are whole
 /// blocks, so that AES over the same bytes leaves none out.
@@ -28,7 +29,8 @@ pub fn rows() -> Vec<Row> {
                     rows.push(Row {
                         call: format!("EME2-{key_length} {way}, {length} bytes"),
                         peer: peer.to_owned(),
-                        length,
+                        unit: Unit::Byte(length),
+                        buffer: Random::new(length as u64).bytes(length),
                         library: library(key.clone(), back),
                         against: against(key.clone(), back),
                         judge: Judge::Apart(second(key, back)),

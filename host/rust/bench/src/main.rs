@@ -5,6 +5,7 @@ mod aes;
 mod eme2;
 mod plain;
 mod row;
+mod store;
 
 use row::Row;
 use std::process::ExitCode;
@@ -12,7 +13,8 @@ use std::process::ExitCode;
 /// The rows of the table. A further call, or a further peer for a call, is a
 /// further row.
 fn rows() -> Vec<Row> {
-    aes::rows().into_iter().chain(eme2::rows()).collect()
+    let layers = [aes::rows(), eme2::rows(), store::rows()];
+    layers.into_iter().flatten().collect()
 }
 
 fn main() -> ExitCode {
@@ -21,17 +23,18 @@ fn main() -> ExitCode {
         eprintln!("bench: {} beside {}: wrong bytes", row.call, row.peer);
         return ExitCode::FAILURE;
     }
-    println!("best of many runs, nanoseconds a byte; ratio is library / peer");
+    println!("best of many runs, nanoseconds a unit; ratio is library / peer");
     println!(
-        "{:<30} {:<10} {:>8} {:>8} {:>6} {:>6}",
-        "call", "peer", "library", "peer", "ratio", "runs"
+        "{:<34} {:<13} {:<4} {:>10} {:>10} {:>6} {:>6}",
+        "call", "peer", "unit", "library", "peer", "ratio", "runs"
     );
     for row in rows {
         let timed = row.time();
         println!(
-            "{:<30} {:<10} {:>8.3} {:>8.3} {:>6.2} {:>6}",
+            "{:<34} {:<13} {:<4} {:>10.3} {:>10.3} {:>6.2} {:>6}",
             row.call,
             row.peer,
+            row.unit.name(),
             timed.library,
             timed.peer,
             timed.library / timed.peer,

@@ -1,41 +1,24 @@
 //! The proved library's calls as safe functions. `host/include/lagunedo.h` is
 //! their manual; this crate adds nothing to them but Rust's types.
+//!
+//! - [`aes_encipher`], [`aes_decipher`]: one block
+//! - [`eme2_encipher`], [`eme2_decipher`]: a whole message
+//! - [`check`], [`read`], [`add`], [`revise`], [`remove`]: a store of sheets
+//! - [`step`], [`job_step`]: its rekeying
+//! - [`raw`]: all of them as C has them
 
+mod job;
+pub mod raw;
 mod refusal;
+mod store;
 
+pub use job::{job_step, step, Job, Outcome};
+use raw::{
+    lagunedo_aes_decipher, lagunedo_aes_encipher, lagunedo_eme2_decipher, lagunedo_eme2_encipher,
+};
 use refusal::answer;
 pub use refusal::Refusal;
-
-extern "C" {
-    fn lagunedo_aes_encipher(
-        key: *const u8,
-        key_length: usize,
-        block: *mut u8,
-        block_length: usize,
-    ) -> u32;
-    fn lagunedo_aes_decipher(
-        key: *const u8,
-        key_length: usize,
-        block: *mut u8,
-        block_length: usize,
-    ) -> u32;
-    fn lagunedo_eme2_encipher(
-        key: *const u8,
-        key_length: usize,
-        ad: *const u8,
-        ad_length: usize,
-        message: *mut u8,
-        message_length: usize,
-    ) -> u32;
-    fn lagunedo_eme2_decipher(
-        key: *const u8,
-        key_length: usize,
-        ad: *const u8,
-        ad_length: usize,
-        message: *mut u8,
-        message_length: usize,
-    ) -> u32;
-}
+pub use store::{add, check, read, remove, revise, Checked, Counts, Found, FAULTY};
 
 /// Enciphers one block in place with AES-128 (a key of 16 bytes) or AES-256
 /// (one of 32).

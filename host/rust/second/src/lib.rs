@@ -1,31 +1,39 @@
-//! AES and EME2-AES written a second time, from FIPS 197 and source document
-//! 000 alone, so that the proved library can be compared with something that
-//! shares no line with it. It is clear before it is fast.
+//! AES, EME2-AES and the sheet store written a second time, from FIPS 197,
+//! source document 000 and 01 alone, so that the proved library can be
+//! compared with something that shares no line with it. It is clear before it
+//! is fast.
 //!
+//! - `numbers`: what is returned in place of a result (01)
 //! - `field`: the bytes as a field (FIPS 197, section 4)
 //! - `substitution`: the two tables, computed from their rule (5.1.1, 5.3.2)
 //! - `schedule`: the round keys (5.2)
 //! - `cipher`: one block, both ways (5.1, 5.3)
 //! - `eme2`: whole messages, both ways (000, Tables 1 and 2)
+//! - `record`: one slot of the store, its fields and its text (01, the store)
+//! - `store`: check, read, add, revise, remove
+//! - `step`: one step of the rekeying job
 
 #![forbid(unsafe_code)]
 
 mod cipher;
 mod eme2;
 mod field;
+mod numbers;
+mod record;
 mod schedule;
+mod step;
+mod store;
 mod substitution;
 
 pub use eme2::{double, eme2, wide};
-
-/// 01: a key given is not 48 or 64 bytes (AES alone: 16 or 32).
-pub const KEY_LENGTH: u32 = 1;
-/// 01: the block is not 16 bytes.
-pub const BLOCK_LENGTH: u32 = 2;
-/// 01: the message is below 16 or above 65,536 bytes.
-pub const MESSAGE_LENGTH: u32 = 2;
-/// 01: the associated data is above 1,024 bytes.
-pub const ASSOCIATED_LENGTH: u32 = 3;
+pub use numbers::{
+    ASSOCIATED_LENGTH, BLOCK_LENGTH, BUFFER_LENGTH, FULL, KEY_LENGTH, LAST_REVISION,
+    MESSAGE_LENGTH, NOT_FOUND, OTHER_REVISION, SHEET_ZERO, STORE_LENGTH, TAKEN, TEXT_LENGTH,
+    UNSOUND,
+};
+pub use record::Keys;
+pub use step::{step, Outcome};
+pub use store::{add, check, read, remove, revise, Checked, Counts, Found};
 
 /// One block overwritten with what AES makes of it, deciphered where `back`
 /// is true. Returns 0, or the number of the first refusal that applies (01,

@@ -3,11 +3,12 @@
 use mathlib.Core.Path.{_≡_, sym, _∙_}
 use mathlib.Core.Bool.{false}
 use mathlib.Core.List.{List}
-use Prim.Native.Nat.{ℕ, _-_}
+use Prim.Native.Nat.{ℕ, _-_, _≤_}
 use native.Mathlib.Omega.{arith}
 use Rattle.store.specs.Plans.{badSize}
-use Rattle.store.specs.Calls.{used}
-use Rattle.store.proofs.CheckLaws.{counted-le, check-refused, check-fault, check-counts, free-count, counts-of}
+use Rattle.slots.specs.Slots.{slots}
+use Rattle.store.specs.Calls.{used, marked}
+use Rattle.store.proofs.CheckLaws.{bad-size-false, counted-le, check-refused, check-fault, check-counts, free-count, counts-of}
 use Rattle.store.proofs.checking.check.Statement.{statement}
 use Rattle.store.proofs.checking.check.Tie as tie
 
@@ -21,11 +22,18 @@ returns c = check-refused (c .before .before .before .args .store .now) (sym (c 
 sized : (c : tie.Else1) → badSize (c .before .before .before .args .store .now) ≡ false
 sized c = sym (c .before .bad-size .ensures) ∙ c .if1 .left
 
+-- so that every count fits into 32 bits
+few : (c : tie.Else1) → slots (c .before .before .before .args .store .now) ≤ 1024
+few c = bad-size-false (c .before .before .before .args .store .now) (sized c) .1
+
 first-fault-requires : tie.Need-first-fault-requires
 first-fault-requires c κs = tt
 
 count-requires : tie.Need-count-requires
 count-requires c κs = tt
+
+cast-t8 : tie.Need-cast-t8
+cast-t8 c = omega (arith, few (c .before .before .before), c .before .count .ensures, c .if2 .taken)
 
 returns-2 : tie.Need-returns-2
 returns-2 c =
@@ -37,22 +45,45 @@ returns-2 c =
 used-slots-requires : tie.Need-used-slots-requires
 used-slots-requires c κs = tt
 
+cast-t9 : tie.Need-cast-t9
+cast-t9 c =
+    let e = c .before .before .before .before in
+    omega (arith, few e, c .used-slots .ensures, counted-le used (e .before .before .before .args .store .now))
+
 count-requires-2 : tie.Need-count-requires-2
 count-requires-2 c κs = tt
 
-sub-t8 : tie.Need-sub-t8
-sub-t8 c =
+sub-t10 : tie.Need-sub-t10
+sub-t10 c =
     let s : List ℕ = c .before .before .before .before .before .before .before .before .args .store .now in
     omega (arith, counted-le used s)
+
+cast-t11 : tie.Need-cast-t11
+cast-t11 c = omega (arith, few (c .before .before .before .before .before), c .count2 .ensures)
 
 marked-slots-requires : tie.Need-marked-slots-requires
 marked-slots-requires c κs = tt
 
+cast-t13 : tie.Need-cast-t13
+cast-t13 c =
+    let e = c .before .before .before .before .before .before in
+    omega (arith, few e, c .marked-slots .ensures, counted-le (marked 0) (e .before .before .before .args .store .now))
+
 marked-slots-requires-2 : tie.Need-marked-slots-requires-2
 marked-slots-requires-2 c κs = tt
 
+cast-t15 : tie.Need-cast-t15
+cast-t15 c =
+    let e = c .before .before .before .before .before .before .before in
+    omega (arith, few e, c .marked-slots2 .ensures, counted-le (marked 1) (e .before .before .before .args .store .now))
+
 marked-slots-requires-3 : tie.Need-marked-slots-requires-3
 marked-slots-requires-3 c κs = tt
+
+cast-t17 : tie.Need-cast-t17
+cast-t17 c =
+    let e = c .before .before .before .before .before .before .before .before in
+    omega (arith, few e, c .marked-slots3 .ensures, counted-le (marked 2) (e .before .before .before .args .store .now))
 
 returns-3 : tie.Need-returns-3
 returns-3 c =
@@ -76,11 +107,17 @@ check-spec =
     returns
     first-fault-requires
     count-requires
+    cast-t8
     returns-2
     used-slots-requires
+    cast-t9
     count-requires-2
-    sub-t8
+    sub-t10
+    cast-t11
     marked-slots-requires
+    cast-t13
     marked-slots-requires-2
+    cast-t15
     marked-slots-requires-3
+    cast-t17
     returns-3)

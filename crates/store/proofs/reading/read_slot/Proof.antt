@@ -61,6 +61,14 @@ take-text-requires c κs =
     let l : len (take (k * 2112 + 2112 - k * 2112) (drop (k * 2112) s)) ≡ len (slot s k) = ap len (slot-part s k) in
     (ap length (slot-part s k) ∙ length-slot s k (p .pre .0), omega (arith, p .pre), omega (arith, p .pre))
 
+cast-t23 : tie.Need-cast-t23
+cast-t23 c =
+    let p = c .before .before .before .before .before .before .before .before .before .before .before .before .before in
+    let s : List ℕ = p .args .store .now in
+    let k : ℕ = p .args .k in
+    let l : len (take (k * 2112 + 2112 - k * 2112) (drop (k * 2112) s)) ≡ len (slot s k) = ap len (slot-part s k) in
+    omega (arith, c .before .before .before .before .before .before .before .text-length .ensures, p .pre)
+
 same-length : tie.Need-same-length
 same-length c = search needs
 
@@ -94,5 +102,6 @@ read-slot-spec =
     part-take-text-start
     part-take-text-end
     take-text-requires
+    cast-t23
     same-length
     returns)

@@ -1,0 +1,42 @@
+/*
+ * What the files of the test share: counting checks, and making bytes.
+ */
+
+#ifndef CHECK_H
+#define CHECK_H
+
+#include <stddef.h>
+#include <stdint.h>
+
+enum { ENCIPHER, DECIPHER, DIRECTIONS };
+
+/*
+ * What is written stands inside a larger buffer, between bytes that must
+ * stay. Their number is odd, since no alignment is asked for.
+ */
+enum { GUARD = 25 };
+
+extern const char *const direction_name[DIRECTIONS];
+
+int opposite(int direction);
+
+/* Counts one check, and gives back whether it holds. */
+int counted(int holds);
+
+/* Bytes without a pattern that a cipher or a stray write would repeat. */
+void fill(uint8_t *bytes, size_t length, uint32_t seed);
+
+/* The bytes that a string of hexadecimal digits names, and their number. */
+size_t from_hex(const char *hex, uint8_t *bytes);
+
+/* FNV-1a of 32 bits. */
+uint32_t digest(const uint8_t *bytes, size_t length);
+
+/* The checks, a file each. */
+void test_aes(void);
+void test_eme2(void);
+void test_store(void);
+void test_refusals(void);
+void test_job(void);
+
+#endif

@@ -1,0 +1,201 @@
+//! The sheet store in lent bytes: check, read, add, revise, remove.
+
+use crate::raw::{lagunedo_add, lagunedo_check, lagunedo_read, lagunedo_remove, lagunedo_revise};
+use crate::refusal::answer;
+use crate::Refusal;
+
+/// What the library's check returns where a slot is faulty: an answer, not a
+/// refusal, so it is above 01's numbers.
+pub const FAULTY: u32 = 256;
+
+/// How many slots of a sound store are of each kind.
+#[derive(Clone, Copy, Debug, Default, Eq, PartialEq)]
+pub struct Counts {
+    /// Slots with a sheet.
+    pub used: u32,
+    /// Slots without one.
+    pub free: u32,
+    /// Sheets in clear.
+    pub clear: u32,
+    /// Sheets under the old key.
+    pub old_key: u32,
+    /// Sheets under the new key.
+    pub new_key: u32,
+}
+
+/// What [`check`] finds.
+#[derive(Clone, Copy, Debug, Eq, PartialEq)]
+pub enum Checked {
+    /// The store is sound.
+    Sound(Counts),
+    /// The lowest slot that is unsound, or that repeats the sheet number of a
+    /// lower slot.
+    Faulty(u32),
+}
+
+/// What [`read`] gives beside the text.
+#[derive(Clone, Copy, Debug, Eq, PartialEq)]
+pub struct Found {
+    /// How many bytes at the front of the buffer are the text.
+    pub length: u32,
+    /// The revision of the sheet, which a revision of it has to name.
+    pub revision: u32,
+}
+
+/// Looks at every slot of a store, and gives the lowest that is faulty or
+/// else the counts.
+///
+/// # Errors
+///
+/// [`Refusal::STORE_LENGTH`].
+pub fn check(store: &[u8]) -> Result<Checked, Refusal> {
+    let mut fault = 0;
+    let mut counts = Counts::default();
+    // SAFETY: the store is only read, and every length of it is taken. The
+    // six numbers are this function's own and are six different places.
+    let number = unsafe {
+        lagunedo_check(
+            store.as_ptr(),
+            store.len(),
+            &mut fault,
+            &mut counts.used,
+            &mut counts.free,
+            &mut counts.clear,
+            &mut counts.old_key,
+            &mut counts.new_key,
+        )
+    };
+    if number == FAULTY {
+        return Ok(Checked::Faulty(fault));
+    }
+    answer(number).map(|()| Checked::Sound(counts))
+}
+
+/// Writes the text of a sheet, in clear, to the front of the buffer `text`,
+/// whose other bytes are kept. 2,096 bytes are enough for every text.
+///
+/// # Errors
+///
+/// In this order: [`Refusal::KEY_LENGTH`] where one of the two keys, which
+/// may differ in length, is neither 48 nor 64 bytes,
+/// [`Refusal::STORE_LENGTH`], [`Refusal::SHEET_ZERO`],
+/// [`Refusal::NOT_FOUND`], [`Refusal::UNSOUND`], [`Refusal::BUFFER_LENGTH`],
+/// and last [`Refusal::CHANGED_LENGTH`], which never comes about; the buffer
+/// is then as it was. A wrong key of an allowed length is no error.
+pub fn read(
+    old_key: &[u8],
+    new_key: &[u8],
+    store: &[u8],
+    sheet: u32,
+    text: &mut [u8],
+) -> Result<Found, Refusal> {
+    let mut found = Found {
+        length: 0,
+        revision: 0,
+    };
+    // SAFETY: slices of any length are taken. Those that are only read may
+    // overlap in Rust; the buffer, borrowed mutably, overlaps none of them.
+    // The two numbers are this function's own. Nothing is kept.
+    let number = unsafe {
+        lagunedo_read(
+            old_key.as_ptr(),
+            old_key.len(),
+            new_key.as_ptr(),
+            new_key.len(),
+            store.as_ptr(),
+            store.len(),
+            sheet,
+            text.as_mut_ptr(),
+            text.len(),
+            &mut found.length,
+            &mut found.revision,
+        )
+    };
+    answer(number).map(|()| found)
+}
+
+/// Writes a new sheet with a text of 16 to 2,096 bytes, under the new key,
+/// into the lowest free slot, and gives its revision, 1.
+///
+/// # Errors
+///
+/// In this order: [`Refusal::KEY_LENGTH`], [`Refusal::STORE_LENGTH`],
+/// [`Refusal::SHEET_ZERO`], [`Refusal::TEXT_LENGTH`], [`Refusal::TAKEN`],
+/// [`Refusal::FULL`]; the store is then as it was.
+pub fn add(
+    old_key: &[u8],
+    new_key: &[u8],
+    store: &mut [u8],
+    sheet: u32,
+    text: &[u8],
+) -> Result<u32, Refusal> {
+    let mut revision = 0;
+    // SAFETY: as for reading, with the store borrowed mutably and the text
+    // only read.
+    let number = unsafe {
+        lagunedo_add(
+            old_key.as_ptr(),
+            old_key.len(),
+            new_key.as_ptr(),
+            new_key.len(),
+            store.as_mut_ptr(),
+            store.len(),
+            sheet,
+            text.as_ptr(),
+            text.len(),
+            &mut revision,
+        )
+    };
+    answer(number).map(|()| revision)
+}
+
+/// Replaces the whole text of a sheet of which the operator saw the revision
+/// `seen`; the new one, of 16 to 2,096 bytes, is under the new key. Gives the
+/// revision now stored, one higher.
+///
+/// # Errors
+///
+/// In this order: [`Refusal::KEY_LENGTH`], [`Refusal::STORE_LENGTH`],
+/// [`Refusal::SHEET_ZERO`], [`Refusal::TEXT_LENGTH`],
+/// [`Refusal::NOT_FOUND`], [`Refusal::UNSOUND`],
+/// [`Refusal::OTHER_REVISION`], [`Refusal::LAST_REVISION`]; the store is then
+/// as it was.
+pub fn revise(
+    old_key: &[u8],
+    new_key: &[u8],
+    store: &mut [u8],
+    sheet: u32,
+    seen: u32,
+    text: &[u8],
+) -> Result<u32, Refusal> {
+    let mut revision = 0;
+    // SAFETY: as for adding.
+    let number = unsafe {
+        lagunedo_revise(
+            old_key.as_ptr(),
+            old_key.len(),
+            new_key.as_ptr(),
+            new_key.len(),
+            store.as_mut_ptr(),
+            store.len(),
+            sheet,
+            seen,
+            text.as_ptr(),
+            text.len(),
+            &mut revision,
+        )
+    };
+    answer(number).map(|()| revision)
+}
+
+/// Zeros the slot of a sheet, sound or not. The slot is then free.
+///
+/// # Errors
+///
+/// In this order: [`Refusal::STORE_LENGTH`], [`Refusal::SHEET_ZERO`],
+/// [`Refusal::NOT_FOUND`]; the store is then as it was.
+pub fn remove(store: &mut [u8], sheet: u32) -> Result<(), Refusal> {
+    // SAFETY: the store may be written and is of any length.
+    let number = unsafe { lagunedo_remove(store.as_mut_ptr(), store.len(), sheet) };
+    answer(number)
+}

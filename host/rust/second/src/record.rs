@@ -1,0 +1,96 @@
+//! 01, "The store": one record of 2,112 bytes, its fields and its text.
+
+use crate::eme2;
+
+/// Bytes of a record, and so of a slot.
+pub const RECORD: usize = 2_112;
+/// Bytes of the lead, the front of a record.
+pub const LEAD: usize = 16;
+/// The shortest text.
+pub const SHORTEST: usize = 16;
+/// The longest text: what a record has behind its lead.
+pub const LONGEST: usize = RECORD - LEAD;
+
+/// Marks: the text is in clear, or enciphered under one of the two keys.
+pub const CLEAR: u8 = 0;
+pub const OLD: u8 = 1;
+pub const NEW: u8 = 2;
+
+/// The two keys that a call on texts is given.
+#[derive(Clone, Copy, Debug)]
+pub struct Keys<'a> {
+    /// The key of mark 1.
+    pub old: &'a [u8],
+    /// The key of mark 2.
+    pub new: &'a [u8],
+}
+
+/// Bytes 0 to 3: the sheet number, 0 where the slot is free.
+pub fn sheet(record: &[u8]) -> u32 {
+    u32::from_le_bytes([record[0], record[1], record[2], record[3]])
+}
+
+/// Bytes 4 and 5: the revision.
+pub fn revision(record: &[u8]) -> u16 {
+    u16::from_le_bytes([record[4], record[5]])
+}
+
+/// Byte 6: the mark.
+pub fn mark(record: &[u8]) -> u8 {
+    record[6]
+}
+
+/// Bytes 8 and 9: the length of the text.
+pub fn length(record: &[u8]) -> usize {
+    usize::from(u16::from_le_bytes([record[8], record[9]]))
+}
+
+/// Whether a slot is as the table has it: all 0 where it is free, or else
+/// with every field in its range and zeros in between and behind.
+pub fn sound(record: &[u8]) -> bool {
+    if sheet(record) == 0 {
+        return zeros(record);
+    }
+    revision(record) >= 1
+        && mark(record) <= NEW
+        && record[7] == 0
+        && (SHORTEST..=LONGEST).contains(&length(record))
+        && zeros(&record[10..LEAD])
+        && zeros(&record[LEAD + length(record)..])
+}
+
+fn zeros(bytes: &[u8]) -> bool {
+    bytes.iter().all(|b| *b == 0)
+}
+
+/// The text of a sound and used slot, deciphered under the key of its mark
+/// with the whole lead for associated data.
+///
+/// EME2 keeps the length of what it deciphers, so number 14 of 01's table is
+/// never answered.
+pub fn text(record: &[u8], keys: Keys) -> Vec<u8> {
+    let (lead, rest) = record.split_at(LEAD);
+    let mut text = rest[..length(record)].to_vec();
+    match mark(record) {
+        OLD => assert_eq!(eme2(keys.old, true, lead, &mut text), 0),
+        NEW => assert_eq!(eme2(keys.new, true, lead, &mut text), 0),
+        _ => (),
+    }
+    text
+}
+
+/// All bytes of a slot that holds a text of an allowed length under the new
+/// key: the lead as it will be stored is the associated data.
+pub fn written(sheet: u32, revision: u16, text: &[u8], new_key: &[u8]) -> Vec<u8> {
+    let length = u16::try_from(text.len()).expect("at most 2,096 bytes");
+    let mut record = vec![0; RECORD];
+    record[..4].copy_from_slice(&sheet.to_le_bytes());
+    record[4..6].copy_from_slice(&revision.to_le_bytes());
+    record[6] = NEW;
+    record[8..10].copy_from_slice(&length.to_le_bytes());
+    let (lead, rest) = record.split_at_mut(LEAD);
+    let stored = &mut rest[..text.len()];
+    stored.copy_from_slice(text);
+    assert_eq!(eme2(new_key, false, lead, stored), 0);
+    record
+}
