@@ -73,52 +73,118 @@ fn outcome_number(x: Outcome) -> u32
     }
 }
 
-pub fn check(store: &[u8], fault: u32, used: u32, free: u32, clear: u32, old: u32, new: u32) -> CheckValues
-    ensures {
-        λ r. ⌜ CheckedForC (now (store .entry)) fault used free clear old new (r .number) (r .fault) (r .used) (r .free) (r .clear) (r .old)
-            (r .new) ⌝
-    }
+pub fn check(
+    store: &[u8],
+    fault: u32,
+    used: u32,
+    free: u32,
+    clear: u32,
+    old: u32,
+    new: u32,
+) -> CheckValues
+    ensures { λ r. ⌜ CheckedForC (now (store .entry)) fault used free clear old new (r .number) (r .fault) (r .used) (r .free) (r .clear) (r .old)
+        (r .new) ⌝ }
 {
     match store::check(store) {
-        Checked::Refused(x) => CheckValues { number: number(x), fault, used, free, clear, old, new },
-        Checked::Fault(k) => CheckValues { number: 256, fault: k, used, free, clear, old, new },
-        Checked::Counts { used: u, free: f, clear: c, old: o, new: n } => CheckValues { number: 0, fault, used: u, free: f, clear: c, old: o, new: n },
+        Checked::Refused(x) => CheckValues {
+            number: number(x),
+            fault,
+            used,
+            free,
+            clear,
+            old,
+            new,
+        },
+        Checked::Fault(k) => CheckValues {
+            number: 256,
+            fault: k,
+            used,
+            free,
+            clear,
+            old,
+            new,
+        },
+        Checked::Counts {
+            used: u,
+            free: f,
+            clear: c,
+            old: o,
+            new: n,
+        } => CheckValues {
+            number: 0,
+            fault,
+            used: u,
+            free: f,
+            clear: c,
+            old: o,
+            new: n,
+        },
     }
 }
 
-pub fn read(old: &[u8], new: &[u8], store: &[u8], sheet: u32, text: &mut [u8], l: u32, v: u32) -> ReadValues
-    ensures {
-        λ r. ⌜ ReadForC (now (old .entry)) (now (new .entry)) (now (store .entry)) sheet (now (text .entry)) l v (r .number) (now (text .exit))
-            (r .length) (r .revision) ⌝
-    }
+pub fn read(
+    old: &[u8],
+    new: &[u8],
+    store: &[u8],
+    sheet: u32,
+    text: &mut [u8],
+    l: u32,
+    v: u32,
+) -> ReadValues
+    ensures { λ r. ⌜ ReadForC (now (old .entry)) (now (new .entry)) (now (store .entry)) sheet (now (text .entry)) l v (r .number) (now (text .exit))
+        (r .length) (r .revision) ⌝ }
 {
     match store::read(old, new, store, sheet, text) {
-        Text::Refused(x) => ReadValues { number: number(x), length: l, revision: v },
-        Text::Read { length, revision } => ReadValues { number: 0, length, revision },
+        Text::Refused(x) => ReadValues {
+            number: number(x),
+            length: l,
+            revision: v,
+        },
+        Text::Read { length, revision } => ReadValues {
+            number: 0,
+            length,
+            revision,
+        },
     }
 }
 
 pub fn add(old: &[u8], new: &[u8], store: &mut [u8], sheet: u32, text: &[u8], v: u32) -> StoreValues
-    ensures {
-        λ r. ⌜ AddForC (now (old .entry)) (now (new .entry)) (now (store .entry)) sheet (now (text .entry)) v (r .number) (now (store .exit))
-            (r .revision) ⌝
-    }
+    ensures { λ r. ⌜ AddForC (now (old .entry)) (now (new .entry)) (now (store .entry)) sheet (now (text .entry)) v (r .number) (now (store .exit))
+        (r .revision) ⌝ }
 {
     match store::add(old, new, store, sheet, text) {
-        Stored::Refused(x) => StoreValues { number: number(x), revision: v },
-        Stored::Revision(revision) => StoreValues { number: 0, revision },
+        Stored::Refused(x) => StoreValues {
+            number: number(x),
+            revision: v,
+        },
+        Stored::Revision(revision) => StoreValues {
+            number: 0,
+            revision,
+        },
     }
 }
 
-pub fn revise(old: &[u8], new: &[u8], store: &mut [u8], sheet: u32, seen: u32, text: &[u8], v: u32) -> StoreValues
-    ensures {
-        λ r. ⌜ ReviseForC (now (old .entry)) (now (new .entry)) (now (store .entry)) sheet seen (now (text .entry)) v (r .number)
-            (now (store .exit)) (r .revision) ⌝
-    }
+pub fn revise(
+    old: &[u8],
+    new: &[u8],
+    store: &mut [u8],
+    sheet: u32,
+    seen: u32,
+    text: &[u8],
+    v: u32,
+) -> StoreValues
+    ensures { λ r. ⌜ ReviseForC (now (old .entry)) (now (new .entry)) (now (store .entry)) sheet seen (now (text .entry)) v (r .number)
+        (now (store .exit)) (r .revision) ⌝ }
 {
     match store::revise(old, new, store, sheet, seen, text) {
-        Stored::Refused(x) => StoreValues { number: number(x), revision: v },
-        Stored::Revision(revision) => StoreValues { number: 0, revision },
+        Stored::Refused(x) => StoreValues {
+            number: number(x),
+            revision: v,
+        },
+        Stored::Revision(revision) => StoreValues {
+            number: 0,
+            revision,
+        },
     }
 }
 
@@ -132,13 +198,22 @@ pub fn remove(store: &mut [u8], sheet: u32) -> u32
 }
 
 pub fn step(old: &[u8], new: &[u8], store: &mut [u8], place: usize, outcome: u32) -> StepValues
-    ensures {
-        λ r. ⌜ StepForC (now (old .entry)) (now (new .entry)) (now (store .entry)) place outcome (r .number) (now (store .exit)) (r .place)
-            (r .outcome) ⌝
-    }
+    ensures { λ r. ⌜ StepForC (now (old .entry)) (now (new .entry)) (now (store .entry)) place outcome (r .number) (now (store .exit)) (r .place)
+        (r .outcome) ⌝ }
 {
     match store::step_at(old, new, store, place) {
-        Stepped::Refused(x) => StepValues { number: number(x), place, outcome },
-        Stepped::Went { outcome: o, place: p } => StepValues { number: 0, place: p, outcome: outcome_number(o) },
+        Stepped::Refused(x) => StepValues {
+            number: number(x),
+            place,
+            outcome,
+        },
+        Stepped::Went {
+            outcome: o,
+            place: p,
+        } => StepValues {
+            number: 0,
+            place: p,
+            outcome: outcome_number(o),
+        },
     }
 }

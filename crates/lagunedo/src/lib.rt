@@ -13,7 +13,6 @@ mod sheets;
 
 use aes::Answer;
 use messages::eme2_number;
-
 pub use sheets::lagunedo_add;
 pub use sheets::lagunedo_check;
 pub use sheets::lagunedo_read;

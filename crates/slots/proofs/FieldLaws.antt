@@ -79,7 +79,7 @@ module _ (r : List ℕ) where
         atLeast = leb-true 16 (len r) (h .3);
         atMost = leb-true (len r) 2096 (h .4);
         spares = h .5;
-        after = h .6
+        after = h .6;
       }
 
   pub unsound : (Used r → ⊥) → soundUsed r ≡ false

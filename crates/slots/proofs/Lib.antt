@@ -3,3 +3,4 @@ pub mod FieldLaws
 pub mod FindLaws
 pub mod WriteLaws
 pub mod TextLaws
+pub mod RecordLaws

@@ -45,7 +45,7 @@ module _ (r : List ℕ) where
       let n : l - 0 ≡ len r = omega arith in
       let c : length (stored r) ≡ l = length-stored g ∙ sym e in
       let t : take (l - 0) out1 ≡ stored r =
-          ap₂ take n q ∙ take-at (stored r) d (len r) (length-stored g) in
+      ap₂ take n q ∙ take-at (stored r) d (len r) (length-stored g) in
       part-changed 0 l out1 x (omega arith)
       ∙ ap₂ (λ (a b : List ℕ). a ++ b) (y ∙ ap₂ (afterwards true k) p t) (ap (drop l) q ∙ drop-at (stored r) d l c)
 
@@ -75,10 +75,13 @@ module _ (r : List ℕ) where
       where
         t : List ℕ
         t = take (len r) (drop 16 r)
+
         bt : Bytes t
         bt = bytes-take (len r) (drop 16 r) (bytes-drop 16 r br)
+
         lt : length t ≡ len r
         lt = length-take-le (len r) (drop 16 r) (omega (arith, length-drop 16 r))
+
         by-mark : (a b : Bool) → length (cond a t (afterwards true (cond b o w) (take 16 r) t)) ≡ len r
         by-mark true b = lt
         by-mark false true = length-kept true o (take 16 r) t bo (bytes-take 16 r br) bt ∙ lt
@@ -99,7 +102,7 @@ pub rekeying : (o w room p q : List ℕ) (n v l : ℕ) (room′ x : List ℕ) �
     → x ≡ sheet w (num q) (rev q) (textOf o w q)
 rekeying o w room p q n v l room′ x e-p e-n e-v e-l h k e-r e-x =
     let t : take (l - 0) room′ ≡ textOf o w p =
-        ap₂ (λ (j : ℕ) (z : List ℕ). take (j - 0) z) e-l e-r ∙ taken (textOf o w p) room (len p) h (sym (ap length e-r) ∙ k) in
+    ap₂ (λ (j : ℕ) (z : List ℕ). take (j - 0) z) e-l e-r ∙ taken (textOf o w p) room (len p) h (sym (ap length e-r) ∙ k) in
     e-x
     ∙ ap (sheet w n v) t
     ∙ ap₂ (λ (a b : ℕ). sheet w a b (textOf o w p)) e-n e-v

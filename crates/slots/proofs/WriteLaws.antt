@@ -45,7 +45,7 @@ writing r h t r1 r2 lr lh lt e1 e2 =
     let q : List ℕ = drop (16 + length t) r1 in
     let lp : length p ≡ 16 + length t = length-append h t ∙ omega arith in
     let x2 : r2 ≡ p ++ q =
-        e2 ∙ ap (λ (z : List ℕ). z ++ (t ++ q)) (ap (take 16) e1 ∙ take-at h d 16 lh) ∙ sym (append-assoc h t q) in
+    e2 ∙ ap (λ (z : List ℕ). z ++ (t ++ q)) (ap (take 16) e1 ∙ take-at h d 16 lh) ∙ sym (append-assoc h t q) in
     let l1 : length r1 ≡ 2112 = ap length e1 ∙ length-append h d ∙ omega (arith, length-drop 16 r) in
     let l2 : length r2 ≡ 2112 = ap length x2 ∙ length-append p q ∙ omega (arith, length-drop (16 + length t) r1) in
     let n : length r2 - (16 + length t) ≡ 2096 - length t = omega arith in
@@ -66,11 +66,11 @@ sheet-sealed w n v t lt k =
     let e-t : take (length t) (drop 16 r) ≡ t = ap (take (length t)) e-d ∙ take-at t z (length t) refl in
     let e-z : drop (16 + length t) r ≡ z = sym (drop-drop (length t) 16 r) ∙ ap (drop (length t)) e-d ∙ drop-at t z (length t) refl in
     let e : sealed w r (length t) ≡ h ++ (x ++ z) =
-        ap₂ (λ (a b : List ℕ). a ++ (afterwards false w a b ++ drop (16 + length t) r)) (take-at h (t ++ z) 16 lh) e-t
-        ∙ ap (λ (b : List ℕ). h ++ (x ++ b)) e-z in
+    ap₂ (λ (a b : List ℕ). a ++ (afterwards false w a b ++ drop (16 + length t) r)) (take-at h (t ++ z) 16 lh) e-t
+    ∙ ap (λ (b : List ℕ). h ++ (x ++ b)) e-z in
     let lz : length z ≡ 2096 - length t = length-replicate {A = ℕ} (2096 - length t) 0 in
     let lx : length t ≡ length x =
-        omega (arith, ap length e, length-append h (x ++ z), length-append x z) in
+    omega (arith, ap length e, length-append h (x ++ z), length-append x z) in
     e ∙ ap (λ (l : ℕ). lead n v 2 l ++ (x ++ replicate (2096 - l) 0)) lx
 
 -- the part of a store that is slot k, changed

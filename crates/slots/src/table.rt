@@ -65,12 +65,10 @@ pub fn empty(s: &mut [u8], k: usize)
 // The sheet of slot k under the new key: its number, its revision and its text, with the new lead.
 pub fn rekey_at(s: &mut [u8], k: usize, o: &[u8], w: &[u8])
     requires { ⌜ (k < slots (now s)) × (len (slot (now s) k) ≤ 2096) ⌝ }
-    ensures {
-        λ _. ⌜ now (s .exit)
-            ≡ put (now (s .entry)) k
-                (sheet (now (w .entry)) (num (slot (now (s .entry)) k)) (rev (slot (now (s .entry)) k))
-                    (textOf (now (o .entry)) (now (w .entry)) (slot (now (s .entry)) k))) ⌝
-    }
+    ensures { λ _. ⌜ now (s .exit)
+        ≡ put (now (s .entry)) k
+        (sheet (now (w .entry)) (num (slot (now (s .entry)) k)) (rev (slot (now (s .entry)) k))
+        (textOf (now (o .entry)) (now (w .entry)) (slot (now (s .entry)) k))) ⌝ }
 {
     let mut room = [0u8; 2096];
     rekey_in(s, k, o, w, &mut room);
@@ -79,12 +77,10 @@ pub fn rekey_at(s: &mut [u8], k: usize, o: &[u8], w: &[u8])
 // The same with room for the text lent.
 fn rekey_in(s: &mut [u8], k: usize, o: &[u8], w: &[u8], room: &mut [u8])
     requires { ⌜ (k < slots (now s)) × (len (slot (now s) k) ≤ 2096) × (length (now room) ≡ 2096) ⌝ }
-    ensures {
-        λ _. ⌜ now (s .exit)
-            ≡ put (now (s .entry)) k
-                (sheet (now (w .entry)) (num (slot (now (s .entry)) k)) (rev (slot (now (s .entry)) k))
-                    (textOf (now (o .entry)) (now (w .entry)) (slot (now (s .entry)) k))) ⌝
-    }
+    ensures { λ _. ⌜ now (s .exit)
+        ≡ put (now (s .entry)) k
+        (sheet (now (w .entry)) (num (slot (now (s .entry)) k)) (rev (slot (now (s .entry)) k))
+        (textOf (now (o .entry)) (now (w .entry)) (slot (now (s .entry)) k))) ⌝ }
 {
     let at = k * 2112;
     let end = at + 2112;

@@ -25,24 +25,20 @@ pub fn put_sheet(r: &mut [u8], w: &[u8], n: u32, v: u32, text: &[u8])
 // The l bytes after the lead enciphered, the lead being the associated data.
 fn seal(r: &mut [u8], w: &[u8], l: usize)
     requires { ⌜ 16 + l ≤ length (now r) ⌝ }
-    ensures {
-        λ _. ⌜ now (r .exit)
-            ≡ take 16 (now (r .entry))
-            ++ (afterwards false (now (w .entry)) (take 16 (now (r .entry))) (take l (drop 16 (now (r .entry)))) ++ drop (16 + l) (now (r .entry))) ⌝
-    }
+    ensures { λ _. ⌜ now (r .exit)
+        ≡ take 16 (now (r .entry))
+        ++ (afterwards false (now (w .entry)) (take 16 (now (r .entry))) (take l (drop 16 (now (r .entry)))) ++ drop (16 + l) (now (r .entry))) ⌝ }
 {
     let h = block::load(r, 0);
-    let end = 16 + l;
-    eme2::encipher(w, &h, &mut r[16..end]);
+    let to = 16 + l;
+    eme2::encipher(w, &h, &mut r[16..to]);
 }
 
 // The text of the record r in clear at the front of `out`; the rest of `out` is kept.
 pub fn take_text(r: &[u8], o: &[u8], w: &[u8], out: &mut [u8])
     requires { ⌜ (length (now r) ≡ 2112) × (16 + len (now r) ≤ 2112) × (len (now r) ≤ length (now out)) ⌝ }
-    ensures {
-        λ _. ⌜ now (out .exit)
-            ≡ textOf (now (o .entry)) (now (w .entry)) (now (r .entry)) ++ drop (len (now (r .entry))) (now (out .entry)) ⌝
-    }
+    ensures { λ _. ⌜ now (out .exit)
+        ≡ textOf (now (o .entry)) (now (w .entry)) (now (r .entry)) ++ drop (len (now (r .entry))) (now (out .entry)) ⌝ }
 {
     let l = text_length(r);
     let end = 16 + l;

@@ -42,9 +42,7 @@ fn lead(n: u32, v: u32, m: u8, l: usize) -> [u8; 16]
 // Puts the text into s from `at` on.
 pub fn copy(s: &mut [u8], at: usize, text: &[u8])
     requires { ⌜ at + length (now text) ≤ length (now s) ⌝ }
-    ensures {
-        λ _. ⌜ now (s .exit) ≡ take at (now (s .entry)) ++ (now (text .entry) ++ drop (at + length (now (text .entry))) (now (s .entry))) ⌝
-    }
+    ensures { λ _. ⌜ now (s .exit) ≡ take at (now (s .entry)) ++ (now (text .entry) ++ drop (at + length (now (text .entry))) (now (s .entry))) ⌝ }
 {
     let mut i = 0;
     while i < text.len() {

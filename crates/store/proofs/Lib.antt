@@ -2,3 +2,4 @@
 pub mod PlanLaws
 pub mod CheckLaws
 pub mod StepLaws
+pub mod RoundTrip

@@ -12,9 +12,7 @@ use super::Text;
 use super::plans::read_plan;
 
 pub fn read(old: &[u8], new: &[u8], store: &[u8], sheet: u32, text: &mut [u8]) -> Text
-    ensures {
-        λ a. ⌜ ReadCalled (now (old .entry)) (now (new .entry)) (now (store .entry)) sheet (now (text .entry)) a (now (text .exit)) ⌝
-    }
+    ensures { λ a. ⌜ ReadCalled (now (old .entry)) (now (new .entry)) (now (store .entry)) sheet (now (text .entry)) a (now (text .exit)) ⌝ }
 {
     match read_plan(old, new, store, sheet, text.len()) {
         Plan::Refuse(x) => Text::Refused(x),
@@ -25,17 +23,18 @@ pub fn read(old: &[u8], new: &[u8], store: &[u8], sheet: u32, text: &mut [u8]) -
 // The text of slot k, and its length and revision.
 fn read_slot(old: &[u8], new: &[u8], store: &[u8], k: usize, text: &mut [u8]) -> Text
     requires { ⌜ (k < slots (now store)) × (len (slot (now store) k) ≤ 2096) × (len (slot (now store) k) ≤ length (now text)) ⌝ }
-    ensures {
-        λ a. ⌜ (a ≡ Text.Read (len (slot (now (store .entry)) k)) (rev (slot (now (store .entry)) k)))
-            × (now (text .exit)
-                ≡ textOf (now (old .entry)) (now (new .entry)) (slot (now (store .entry)) k)
-                ++ drop (len (slot (now (store .entry)) k)) (now (text .entry))) ⌝
-    }
+    ensures { λ a. ⌜ (a ≡ Text.Read (len (slot (now (store .entry)) k)) (rev (slot (now (store .entry)) k)))
+        × (now (text .exit)
+        ≡ textOf (now (old .entry)) (now (new .entry)) (slot (now (store .entry)) k)
+        ++ drop (len (slot (now (store .entry)) k)) (now (text .entry))) ⌝ }
 {
     let at = k * 2112;
     let end = at + 2112;
     let l = slots::text_length(&store[at..end]);
     let v = slots::revision(&store[at..end]);
     slots::take_text(&store[at..end], old, new, text);
-    Text::Read { length: l as u32, revision: v }
+    Text::Read {
+        length: l as u32,
+        revision: v,
+    }
 }

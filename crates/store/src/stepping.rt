@@ -18,25 +18,38 @@ pub fn step_at(old: &[u8], new: &[u8], store: &mut [u8], place: usize) -> Steppe
 
 // The slot at place k.
 fn step_slot(old: &[u8], new: &[u8], store: &mut [u8], k: usize) -> Stepped
-    ensures {
-        λ a. ⌜ (a ≡ Stepped.Went (outcomeAt (now (store .entry)) k) (movedFrom k (outcomeAt (now (store .entry)) k)))
-            × (now (store .exit) ≡ convertedAt (now (old .entry)) (now (new .entry)) (now (store .entry)) k (outcomeAt (now (store .entry)) k)) ⌝
-    }
+    ensures { λ a. ⌜ (a ≡ Stepped.Went (outcomeAt (now (store .entry)) k) (movedFrom k (outcomeAt (now (store .entry)) k)))
+        × (now (store .exit) ≡ convertedAt (now (old .entry)) (now (new .entry)) (now (store .entry)) k (outcomeAt (now (store .entry)) k)) ⌝ }
 {
     if k >= count(store) {
-        return Stepped::Went { outcome: Outcome::Done, place: k };
+        return Stepped::Went {
+            outcome: Outcome::Done,
+            place: k,
+        };
     }
     let at = k * 2112;
     let end = at + 2112;
     if slots::number(&store[at..end]) == 0 {
-        return Stepped::Went { outcome: Outcome::Free, place: k + 1 };
+        return Stepped::Went {
+            outcome: Outcome::Free,
+            place: k + 1,
+        };
     }
     if !slots::is_sound(&store[at..end]) {
-        return Stepped::Went { outcome: Outcome::Damaged, place: k + 1 };
+        return Stepped::Went {
+            outcome: Outcome::Damaged,
+            place: k + 1,
+        };
     }
     if slots::mark(&store[at..end]) == 2 {
-        return Stepped::Went { outcome: Outcome::Already, place: k + 1 };
+        return Stepped::Went {
+            outcome: Outcome::Already,
+            place: k + 1,
+        };
     }
     slots::rekey_at(store, k, old, new);
-    Stepped::Went { outcome: Outcome::Converted, place: k + 1 }
+    Stepped::Went {
+        outcome: Outcome::Converted,
+        place: k + 1,
+    }
 }

@@ -14,9 +14,7 @@ use slots::put_sheet_at;
 
 // The lowest slot whose sheet number is 0 becomes the sheet at revision 1, under the new key.
 pub fn add(old: &[u8], new: &[u8], store: &mut [u8], sheet: u32, text: &[u8]) -> Stored
-    ensures {
-        λ a. ⌜ AddCalled (now (old .entry)) (now (new .entry)) (now (store .entry)) sheet (now (text .entry)) a (now (store .exit)) ⌝
-    }
+    ensures { λ a. ⌜ AddCalled (now (old .entry)) (now (new .entry)) (now (store .entry)) sheet (now (text .entry)) a (now (store .exit)) ⌝ }
 {
     match add_plan(old, new, store, sheet, text) {
         Plan::Refuse(x) => Stored::Refused(x),
@@ -28,10 +26,15 @@ pub fn add(old: &[u8], new: &[u8], store: &mut [u8], sheet: u32, text: &[u8]) ->
 }
 
 // The sheet's text replaced whole: revision one higher than the operator saw, under the new key.
-pub fn revise(old: &[u8], new: &[u8], store: &mut [u8], sheet: u32, seen: u32, text: &[u8]) -> Stored
-    ensures {
-        λ a. ⌜ ReviseCalled (now (old .entry)) (now (new .entry)) (now (store .entry)) sheet seen (now (text .entry)) a (now (store .exit)) ⌝
-    }
+pub fn revise(
+    old: &[u8],
+    new: &[u8],
+    store: &mut [u8],
+    sheet: u32,
+    seen: u32,
+    text: &[u8],
+) -> Stored
+    ensures { λ a. ⌜ ReviseCalled (now (old .entry)) (now (new .entry)) (now (store .entry)) sheet seen (now (text .entry)) a (now (store .exit)) ⌝ }
 {
     match revise_plan(old, new, store, sheet, seen, text) {
         Plan::Refuse(x) => Stored::Refused(x),

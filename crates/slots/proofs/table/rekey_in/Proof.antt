@@ -111,7 +111,7 @@ put-sheet-requires c κs =
     let s : List ℕ = p .args .s .now in
     let k : ℕ = p .args .k in
     let n : length (take (l - 0) (tt .take-text .last .1 .1 .1 .0)) ≡ l - 0 =
-        length-take-le (l - 0) (tt .take-text .last .1 .1 .1 .0) (omega (arith, room-for tt)) in
+    length-take-le (l - 0) (tt .take-text .last .1 .1 .1 .0) (omega (arith, room-for tt)) in
     (ap length (slot-part s k) ∙ length-slot s k (p .pre .0), omega (arith, room-for tt, tt .take-text .kept .1 .1 .1 .0, p .pre))
 
 same-length : tie.Need-same-length

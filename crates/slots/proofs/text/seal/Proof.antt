@@ -9,8 +9,8 @@ use Rattle.slots.proofs.text.seal.Tie as tie
 load-requires : tie.Need-load-requires
 load-requires c κs = search needs
 
-add-end : tie.Need-add-end
-add-end c = search needs
+add-to : tie.Need-add-to
+add-to c = search needs
 
 slice-aggregate-encipher : tie.Need-slice-aggregate-encipher
 slice-aggregate-encipher c = search needs
@@ -42,7 +42,7 @@ seal-spec =
     tie.close
     (tie.spec
     load-requires
-    add-end
+    add-to
     slice-aggregate-encipher
     sub-encipher
     part-encipher-start

@@ -33,7 +33,7 @@ returns c =
     let pl = c .before .before .before in
     let a = pl .before .before .before .before .before .args in
     let e : readPlan (a .old .now) (a .new .now) (a .store .now) (a .sheet) (length (a .text .now)) ≡ Refuse (c .before .x .given .0 .0) =
-        sym (pl .read-plan .ensures) ∙ c .before .x .given .1 in
+    sym (pl .read-plan .ensures) ∙ c .before .x .given .1 in
     (sym (ap (readAnswer (a .store .now)) e), sym (ap (readBuffer (a .old .now) (a .new .now) (a .store .now) (a .text .now)) e))
 
 same-length : tie.Need-same-length
@@ -46,7 +46,7 @@ returns-2 c =
     let pl = kk .before .before in
     let a = pl .before .before .before .before .before .args in
     let e : readPlan (a .old .now) (a .new .now) (a .store .now) (a .sheet) (length (a .text .now)) ≡ At (kk .k .given .0 .0) =
-        sym (pl .read-plan .ensures) ∙ kk .k .given .1 in (
+    sym (pl .read-plan .ensures) ∙ kk .k .given .1 in (
       rs .read-slot .ensures .0 ∙ sym (ap (readAnswer (a .store .now)) e),
       rs .read-slot .ensures .1 ∙ sym (ap (readBuffer (a .old .now) (a .new .now) (a .store .now) (a .text .now)) e),
     )

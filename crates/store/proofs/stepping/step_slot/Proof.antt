@@ -95,7 +95,7 @@ returns-3 c =
     let a = t2 .before .before .before .before .before .before .before .before .before .before .args in
     let r : List ℕ = slot (a .store .now) (a .k) in
     let s : sound r ≡ false =
-        sym (ap sound (slot-part (a .store .now) (a .k))) ∙ sym (c .before .is-sound .ensures) ∙ not-true (c .before .is-sound .result) (c .if3 .taken) in
+    sym (ap sound (slot-part (a .store .now) (a .k))) ∙ sym (c .before .is-sound .ensures) ∙ not-true (c .before .is-sound .result) (c .if3 .taken) in
     (sym (ap (λ (x : Outcome). Went x (movedFrom (a .k) x)) (inside (a .store .now) (a .k) (within (t2 .before .before .before .before)) ∙ is-damaged r (taken-slot t2) s)), sym (ap (convertedAt (a .old .now) (a .new .now) (a .store .now) (a .k)) (inside (a .store .now) (a .k) (within (t2 .before .before .before .before)) ∙ is-damaged r (taken-slot t2) s)))
 
 -- past the third it is sound
@@ -154,7 +154,7 @@ returns-5 c =
     let r : List ℕ = slot (a .store .now) (a .k) in
     let m : mark r ≡ 2 → ⊥ = λ q. t4 .if4 .left (t4 .before .mark .ensures ∙ ap mark (slot-part (a .store .now) (a .k)) ∙ q) in
     let e : outcomeAt (a .store .now) (a .k) ≡ Converted =
-        inside (a .store .now) (a .k) (within (t2 .before .before .before .before)) ∙ is-converted r (taken-slot t2) (sound-slot t3) m in (
+    inside (a .store .now) (a .k) (within (t2 .before .before .before .before)) ∙ is-converted r (taken-slot t2) (sound-slot t3) m in (
       sym (ap (λ (x : Outcome). Went x (movedFrom (a .k) x)) e),
       re .rekey-at .ensures ∙ sym (ap (convertedAt (a .old .now) (a .new .now) (a .store .now) (a .k)) e),
     )

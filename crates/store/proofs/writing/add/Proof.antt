@@ -35,7 +35,7 @@ returns c =
     let pl = c .before .before .before in
     let a = pl .before .before .before .before .before .before .args in
     let e : addPlan (a .old .now) (a .new .now) (a .store .now) (a .sheet) (a .text .now) ≡ Refuse (c .before .x .given .0 .0) =
-        sym (pl .add-plan .ensures) ∙ c .before .x .given .1 in
+    sym (pl .add-plan .ensures) ∙ c .before .x .given .1 in
     (sym (ap addAnswer e), sym (ap (addStore (a .new .now) (a .store .now) (a .sheet) (a .text .now)) e))
 
 same-length-2 : tie.Need-same-length-2
@@ -48,7 +48,7 @@ returns-2 c =
     let pl = kk .before .before in
     let a = pl .before .before .before .before .before .before .args in
     let e : addPlan (a .old .now) (a .new .now) (a .store .now) (a .sheet) (a .text .now) ≡ At (kk .k .given .0 .0) =
-        sym (pl .add-plan .ensures) ∙ kk .k .given .1 in
+    sym (pl .add-plan .ensures) ∙ kk .k .given .1 in
     (sym (ap addAnswer e), ps .put-sheet-at .ensures ∙ sym (ap (addStore (a .new .now) (a .store .now) (a .sheet) (a .text .now)) e))
 
 pub add-spec : {M : Type 1} → statement M

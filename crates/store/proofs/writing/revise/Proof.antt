@@ -61,7 +61,7 @@ returns c =
     let pl = c .before .before .before in
     let a = pl .before .before .before .before .before .before .args in
     let e : revisePlan (a .old .now) (a .new .now) (a .store .now) (a .sheet) (a .seen) (a .text .now) ≡ Refuse (c .before .x .given .0 .0) =
-        sym (pl .revise-plan .ensures) ∙ c .before .x .given .1 in
+    sym (pl .revise-plan .ensures) ∙ c .before .x .given .1 in
     (sym (ap (reviseAnswer (a .store .now)) e), sym (ap (reviseStore (a .new .now) (a .store .now) (a .sheet) (a .text .now)) e))
 
 same-length-2 : tie.Need-same-length-2
