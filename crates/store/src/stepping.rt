@@ -29,27 +29,28 @@ fn step_slot(old: &[u8], new: &[u8], store: &mut [u8], k: usize) -> Stepped
     }
     let at = k * 2112;
     let end = at + 2112;
+    let next = k + 1;
     if slots::number(&store[at..end]) == 0 {
         return Stepped::Went {
             outcome: Outcome::Free,
-            place: k + 1,
+            place: next,
         };
     }
     if !slots::is_sound(&store[at..end]) {
         return Stepped::Went {
             outcome: Outcome::Damaged,
-            place: k + 1,
+            place: next,
         };
     }
     if slots::mark(&store[at..end]) == 2 {
         return Stepped::Went {
             outcome: Outcome::Already,
-            place: k + 1,
+            place: next,
         };
     }
     slots::rekey_at(store, k, old, new);
     Stepped::Went {
         outcome: Outcome::Converted,
-        place: k + 1,
+        place: next,
     }
 }

@@ -41,6 +41,9 @@ mul-at c = search needs
 add-end : tie.Need-add-end
 add-end c = search needs
 
+add-next : tie.Need-add-next
+add-next c = search needs
+
 sub-number : tie.Need-sub-number
 sub-number c = search needs
 
@@ -52,9 +55,6 @@ part-number-end c = search needs
 
 number-requires : tie.Need-number-requires
 number-requires c κs = search needs
-
-add-t17 : tie.Need-add-t17
-add-t17 c = search needs
 
 same-length-2 : tie.Need-same-length-2
 same-length-2 c = search needs
@@ -82,9 +82,6 @@ part-is-sound-end c = search needs
 
 is-sound-requires : tie.Need-is-sound-requires
 is-sound-requires c κs = search needs
-
-add-t23 : tie.Need-add-t23
-add-t23 c = search needs
 
 same-length-3 : tie.Need-same-length-3
 same-length-3 c = search needs
@@ -116,9 +113,6 @@ part-mark-end c = search needs
 mark-requires : tie.Need-mark-requires
 mark-requires c κs = search needs
 
-add-t29 : tie.Need-add-t29
-add-t29 c = search needs
-
 same-length-4 : tie.Need-same-length-4
 same-length-4 c = search needs
 
@@ -137,9 +131,6 @@ rekey-at-requires c κs =
     let t2 = t3 .before .before .before .before in
     let a = t2 .before .before .before .before .before .before .before .before .before .before .args in
     (within (t2 .before .before .before .before), sound-len (slot (a .store .now) (a .k)) (sound-slot t3) (taken-slot t2) .1)
-
-add-t7 : tie.Need-add-t7
-add-t7 c = search needs
 
 same-length-5 : tie.Need-same-length-5
 same-length-5 c = search needs
@@ -168,28 +159,25 @@ step-slot-spec =
     returns
     mul-at
     add-end
+    add-next
     sub-number
     part-number-start
     part-number-end
     number-requires
-    add-t17
     same-length-2
     returns-2
     sub-is-sound
     part-is-sound-start
     part-is-sound-end
     is-sound-requires
-    add-t23
     same-length-3
     returns-3
     sub-mark
     part-mark-start
     part-mark-end
     mark-requires
-    add-t29
     same-length-4
     returns-4
     rekey-at-requires
-    add-t7
     same-length-5
     returns-5)
