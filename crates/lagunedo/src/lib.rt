@@ -6,12 +6,16 @@ ghost use Rattle.aes.specs.Calls.{paper};
 ghost use Rattle.lagunedo.specs.Calls.{AesCalled, Eme2Called};
 // What the store's calls answer, by value.
 mod answers;
+// The step over a job that is lent.
+mod job;
 // 01's numbers of EME2's answers.
 mod messages;
 // The store's calls.
 mod sheets;
 
 use aes::Answer;
+pub use job::Job;
+pub use job::lagunedo_job_step;
 use messages::eme2_number;
 pub use sheets::lagunedo_add;
 pub use sheets::lagunedo_check;
