@@ -38,5 +38,6 @@ void test_eme2(void);
 void test_store(void);
 void test_refusals(void);
 void test_job(void);
+void test_stack(void);
 
 #endif

@@ -1,6 +1,6 @@
 -- Laws of looking for a slot and of counting slots, and a slot as the part of the store that the code takes.
 -- Assumes nothing.
-use mathlib.Core.Path.{_≡_, refl, sym, ap, _∙_}
+use mathlib.Core.Path.{_≡_, refl, sym, ap, _∙_, subst}
 use mathlib.Core.Logic.{⊎-elim}
 use mathlib.Core.Bool.{Bool, true, false, cond, not}
 use mathlib.Core.List.{List}
@@ -9,7 +9,7 @@ use native.Mathlib.Nat.{eq-or-lt-of-le}
 use native.Mathlib.Numerals.{add-one}
 use native.Mathlib.Omega.{arith}
 use borrow.Author.Tests.{eqb-true, eqb-false}
-use lib.Dec.{eqb}
+use lib.Dec.{T, eqb}
 use lib.ListN.{length, take, drop}
 use Rattle.block.specs.Rows.{row}
 use Rattle.block.proofs.RowLaws.{length-row}
@@ -30,6 +30,9 @@ of-below : (p : ℕ → Bool) (b : Bool) (x y j : ℕ) → p x ≡ b → x ≤ j
 of-below p true x y j e l k h = let z : ⊥ = omega arith in absurd z
 of-below p false x y j e l k h =
     ⊎-elim (λ (q : x ≡ j). ap p (sym q) ∙ e) (λ (q : x < j). k q h) (eq-or-lt-of-le l)
+
+clash : (b : Bool) → b ≡ true → b ≡ false → ⊥
+clash b e f = subst T (sym e ∙ f) tt
 
 module _ (p : ℕ → Bool) where
   pub scan-le : (i n : ℕ) → scan p i n ≤ i + n
@@ -83,6 +86,14 @@ module _ (p : ℕ → Bool) where
 
   pub lowest-below : (n j : ℕ) → j < lowest p n → p j ≡ false
   lowest-below n j h = scan-below 0 n j (omega arith) h
+
+  -- the one that passes where none below does
+  pub lowest-is : (n k : ℕ) → k < n → p k ≡ true → ((j : ℕ) → j < k → p j ≡ false) → lowest p n ≡ k
+  lowest-is n k h e f =
+      let m : ℕ = lowest p n in
+      let a : m < k → ⊥ = λ q. clash (p m) (lowest-has n (omega arith)) (f m q) in
+      let b : k < m → ⊥ = λ q. clash (p k) e (lowest-below n k q) in
+      omega (arith, a, b)
 
 -- ---- counts
 

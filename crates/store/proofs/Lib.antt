@@ -3,3 +3,4 @@ pub mod PlanLaws
 pub mod CheckLaws
 pub mod StepLaws
 pub mod RoundTrip
+pub mod Retry

@@ -35,11 +35,11 @@ abbrev ends : Plan → ℕ
 ends (Refuse x) = 0
 ends (At k) = 1
 
-abbrev slotOf : Plan → ℕ
+abbrev pub slotOf : Plan → ℕ
 slotOf (Refuse x) = 0
 slotOf (At k) = k
 
-passed : (b : Bool) (x : Refusal) (p : Plan) (k : ℕ) → guard b x p ≡ At k → (b ≡ false) × (p ≡ At k)
+pub passed : (b : Bool) (x : Refusal) (p : Plan) (k : ℕ) → guard b x p ≡ At k → (b ≡ false) × (p ≡ At k)
 unfolding guard
 passed true x p k e =
     let z : _≡_ {A = ℕ} 0 1 = ap ends e in
@@ -84,7 +84,7 @@ read-at o w s n b k e =
     let m : len (slot s (find s n)) ≡ len (slot s k) = ap (λ (j : ℕ). len (slot s j)) f in
     (omega arith, omega (arith, l), omega arith)
 
-text-fits : (t : List ℕ) → badText t ≡ false → length t ≤ 2096
+pub text-fits : (t : List ℕ) → badText t ≡ false → length t ≤ 2096
 unfolding badText
 text-fits t e = ltb-false 2096 (length t) (second (ltb (length t) 16) (ltb 2096 (length t)) e)
   where
@@ -92,6 +92,14 @@ text-fits t e = ltb-false 2096 (length t) (second (ltb (length t) 16) (ltb 2096 
     second false b e = e
     second true true e = e
     second true false e = refl
+
+pub long-enough : (t : List ℕ) → badText t ≡ false → 16 ≤ length t
+unfolding badText
+long-enough t e = ltb-false (length t) 16 (first (ltb (length t) 16) (ltb 2096 (length t)) e)
+  where
+    first : (a b : Bool) → a || b ≡ false → a ≡ false
+    first false b e = refl
+    first true b e = e
 
 pub add-at : (o w s : List ℕ) (n : ℕ) (t : List ℕ) (k : ℕ) → addPlan o w s n t ≡ At k → (k < slots s) × (length t ≤ 2096)
 unfolding addPlan
