@@ -1,5 +1,5 @@
--- What is proved of the transform for every key, associated data and message, refused or not: the length is kept, and each direction
--- undoes the other.
+-- What is proved of the transform for every key, associated data and message, refused or not: the length is kept, bytes stay bytes, and each
+-- direction undoes the other.
 -- Assumes nothing.
 use mathlib.Core.Path.{_≡_, refl, sym, ap, _∙_}
 use mathlib.Core.Bool.{Bool, true, false, cond, not, _||_}
@@ -20,7 +20,7 @@ use Rattle.wide.specs.Permutation.{Undoes}
 use Rattle.wide.specs.TStar.{eme2TStar}
 use Rattle.eme2.specs.Transform.{Key1, Key2, Key3, number, eme2, afterwards}
 use Rattle.wide.proofs.Undo.{wide-undone}
-use Rattle.wide.proofs.Lengths.{length-wide}
+use Rattle.wide.proofs.Lengths.{length-wide, bytes-wide}
 use Rattle.wide.proofs.TStarLaws.{block-tStar}
 
 -- what the ladder says where it lets a call through
@@ -70,6 +70,10 @@ module _ (k ad m : List ℕ) (bk : Bytes k) (bad : Bytes ad) (bm : Bytes m) (e :
   unfolding eme2
   length-eme2 back = length-wide (aes back (Key1 k)) (aes (not back) (Key1 k)) (undoes back) block2 star m long bm
 
+  bytes-eme2 : (back : Bool) → Bytes (eme2 back k ad m)
+  unfolding eme2
+  bytes-eme2 back = bytes-wide (aes back (Key1 k)) (aes (not back) (Key1 k)) (undoes back) block2 star m long bm
+
   eme2-undone : (back : Bool) → eme2 (not back) k ad (eme2 back k ad m) ≡ m
   unfolding eme2
   eme2-undone back = wide-undone (aes back (Key1 k)) (aes (not back) (Key1 k)) (undoes back) block2 star m long bm
@@ -99,3 +103,11 @@ module _ (back : Bool) (k ad m : List ℕ) (bk : Bytes k) (bad : Bytes ad) (bm :
   pub undone : afterwards (not back) k ad (afterwards back k ad m) ≡ m
   unfolding afterwards
   undone = both (eqb (number k ad m) 0) refl .1
+
+  pub bytes-kept : Bytes (afterwards back k ad m)
+  unfolding afterwards
+  bytes-kept = by-number (eqb (number k ad m) 0) refl
+    where
+      by-number : (t : Bool) → eqb (number k ad m) 0 ≡ t → Bytes (cond t (eme2 back k ad m) m)
+      by-number true e = bytes-eme2 k ad m bk bad bm (eqb-true (number k ad m) 0 e) back
+      by-number false e = bm

@@ -12,16 +12,16 @@ use lib.ListN.{length, take, drop, replicate, length-append, length-replicate}
 use lib.Seq.{take-at, drop-at, drop-drop}
 use Rattle.block.specs.Bytes.{Bytes}
 use Rattle.block.specs.Tab.{byte}
-use Rattle.block.proofs.BytesLaws.{bytes-cons, bytes-zeros}
+use Rattle.block.proofs.BytesLaws.{bytes-cons, bytes-zeros, bytes-append}
 use Rattle.eme2.specs.Transform.{afterwards}
-use Rattle.eme2.proofs.Promise.{length-kept, undone}
+use Rattle.eme2.proofs.Promise.{length-kept, bytes-kept, undone}
 use Rattle.slots.specs.Record.{num, rev, mark, len, leadOf, stored, allZero, soundUsed, sound, lead, recordOf}
 use Rattle.slots.specs.Text.{textOf, sheet}
 use Rattle.slots.proofs.FieldLaws.{sound-taken, used-last}
 use Rattle.slots.proofs.WriteLaws.{length-lead}
 use Rattle.slots.proofs.TextLaws.{text-new}
 
-allZero-zeros : (n : ℕ) → allZero (replicate n 0) ≡ true
+pub allZero-zeros : (n : ℕ) → allZero (replicate n 0) ≡ true
 unfolding allZero
 allZero-zeros zero = refl
 allZero-zeros (suc n) = allZero-zeros n
@@ -100,6 +100,15 @@ module _ (n v m : ℕ) (t : List ℕ) where
         sound-taken r (λ q. z (sym (num-record hn) ∙ q))
         ∙ used-last r (omega (arith, rev-record kv)) (omega (arith, mark-record)) spare (omega (arith, len-record)) (omega (arith, len-record)) spares
         ∙ rest
+
+-- a sheet is a record of bytes
+pub bytes-sheet : (w : List ℕ) (n v : ℕ) (t : List ℕ) → Bytes w → Bytes t → Bytes (sheet w n v t)
+unfolding sheet recordOf
+bytes-sheet w n v t bw bt =
+    let x : List ℕ = afterwards false w (lead n v 2 (length t)) t in
+    let bx : Bytes x = bytes-kept false w (lead n v 2 (length t)) t bw (bytes-lead n v 2 (length t) (lit< tt)) bt in
+    bytes-append (lead n v 2 (length x)) (x ++ replicate (2096 - length x) 0) (bytes-lead n v 2 (length x) (lit< tt))
+    (bytes-append x (replicate (2096 - length x) 0) bx (bytes-zeros (2096 - length x)))
 
 -- what add and revise store, read gives back
 pub sheet-text : (o w : List ℕ) (n v : ℕ) (t : List ℕ) → Bytes w → Bytes t → length t ≤ 2096 → textOf o w (sheet w n v t) ≡ t

@@ -17,7 +17,7 @@ use Rattle.slots.specs.Slots.{slots, slot, put}
 use Rattle.slots.proofs.RecordLaws.{bytes-lead, num-record, rev-record, mark-record, length-record, sound-record, sheet-text}
 
 module _ (w : List ℕ) (n v : ℕ) (t : List ℕ) (bw : Bytes w) (bt : Bytes t) (ht : length t ≤ 2096) where
-  kept : length (afterwards false w (lead n v 2 (length t)) t) ≡ length t
+  pub kept : length (afterwards false w (lead n v 2 (length t)) t) ≡ length t
   kept = length-kept false w (lead n v 2 (length t)) t bw (bytes-lead n v 2 (length t) (lit< tt)) bt
 
   pub length-sheet : length (sheet w n v t) ≡ 2112

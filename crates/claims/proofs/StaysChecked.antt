@@ -1,0 +1,80 @@
+-- No call makes a sheet number stand twice.
+-- Assumes nothing.
+use mathlib.Core.Path.{_≡_, refl, sym, ap, _∙_}
+use mathlib.Core.Bool.{false}
+use mathlib.Core.List.{List, [], _∷_}
+use Prim.Native.Nat.{ℕ, _+_, _≤_, _<_}
+use native.Mathlib.Omega.{arith}
+use lib.ListN.{length}
+use Rattle.block.specs.Bytes.{Bytes}
+use Rattle.block.proofs.RowLaws.{bytes-row}
+use Rattle.slots.specs.Record.{num, rev, len, sound}
+use Rattle.slots.specs.Text.{textOf, sheet}
+use Rattle.slots.specs.Slots.{slots, slot, emptied, find}
+use Rattle.slots.proofs.FieldLaws.{sound-len, num-bound}
+use Rattle.slots.proofs.FindLaws.{find-lowest, length-slot}
+use Rattle.slots.proofs.TextLaws.{length-textOf}
+use Rattle.store.specs.declared.Plan.{Plan}
+use Rattle.store.specs.declared.Plan.the-variants.{Refuse, At}
+use Rattle.store.specs.declared.Outcome.{Outcome}
+use Rattle.store.specs.declared.Outcome.the-variants.{Done, Free, Damaged, Already, Converted}
+use Rattle.store.specs.Plans.{badKeys, addPlan, revisePlan, removePlan, stepPlan}
+use Rattle.store.specs.Calls.{addStore, reviseStore, removeStore, outcomeAt, convertedAt, stepStore}
+use Rattle.store.proofs.PlanLaws.{remove-at}
+use Rattle.store.proofs.RoundTrip.{length-sheet}
+use Rattle.claims.specs.Machine.{Event, reading, adding, revising, removing, stepping, Allowed, State, next}
+use Rattle.claims.proofs.Simulation.{SoundStore}
+use Rattle.claims.proofs.Keeping.{num-emptied, length-emptied, num-sheet}
+use Rattle.claims.proofs.Effects.{add-says, revise-says, converts, bytes-textOf}
+use Rattle.claims.proofs.Checking.{Apart, apart-put}
+
+module _ (o w : List ℕ) (bo : Bytes o) (bw : Bytes w) (s : List ℕ) (g : SoundStore s) (a : Apart s) where
+  removed-apart : (n : ℕ) (p : Plan) → removePlan s n ≡ p → Apart (removeStore s p)
+  removed-apart n (Refuse x) e = a
+  removed-apart n (At k) e = apart-put s k (remove-at s n k e) emptied length-emptied a (λ j hj nj z q. z num-emptied)
+
+  added-apart : (n : ℕ) (t : List ℕ) → n < 4294967296 → Bytes t → (p : Plan) → addPlan o w s n t ≡ p → Apart (addStore w s n t p)
+  added-apart n t hn bt (Refuse x) e = a
+  added-apart n t hn bt (At k) e =
+      let c = add-says o w s n t k e in
+      apart-put s k (c .within) (sheet w n 1 t) (length-sheet w n 1 t bw bt (c .fits)) a
+      (λ j hj nj z q. find-lowest s n j (omega (arith, c .new)) (q ∙ num-sheet w n 1 t bw bt (c .fits) hn))
+
+  revised-apart : (n v : ℕ) (t : List ℕ) → n < 4294967296 → Bytes t → (p : Plan) → revisePlan o w s n v t ≡ p → Apart (reviseStore w s n t p)
+  revised-apart n v t hn bt (Refuse x) e = a
+  revised-apart n v t hn bt (At k) e =
+      let c = revise-says o w s n v t k e in
+      let x : List ℕ = sheet w n (rev (slot s k) + 1) t in
+      let m : num x ≡ n = num-sheet w n (rev (slot s k) + 1) t bw bt (c .fits) hn in
+      apart-put s k (c .within) x (length-sheet w n (rev (slot s k) + 1) t bw bt (c .fits)) a
+      (λ j hj nj z q. nj (a j k hj (c .within) (λ y. z (sym q ∙ y)) (q ∙ m ∙ sym (c .number))))
+
+  converted-apart : (k : ℕ) (x : Outcome) → outcomeAt s k ≡ x → Apart (convertedAt o w s k x)
+  converted-apart k Done e = a
+  converted-apart k Free e = a
+  converted-apart k Damaged e = a
+  converted-apart k Already e = a
+  converted-apart k Converted e =
+      let c = converts s k e in
+      let r : List ℕ = slot s k in
+      let br : Bytes r = bytes-row 2112 s k (g .bytes) in
+      let b = sound-len r (g .each k (c .0)) (c .1) in
+      let t : List ℕ = textOf o w r in
+      let bt : Bytes t = bytes-textOf o w r bo bw br in
+      let lt : length t ≡ len r = length-textOf r o w bo bw br (omega (arith, b, length-slot s k (c .0))) in
+      let ht : length t ≤ 2096 = omega (arith, b) in
+      let m : num (sheet w (num r) (rev r) t) ≡ num r = num-sheet w (num r) (rev r) t bw bt ht (num-bound r br) in
+      apart-put s k (c .0) (sheet w (num r) (rev r) t) (length-sheet w (num r) (rev r) t bw bt ht) a
+      (λ j hj nj z q. nj (a j k hj (c .0) (λ y. z (sym q ∙ y)) (q ∙ m)))
+
+  stepped-apart : (p : Plan) → Apart (stepStore o w s p)
+  stepped-apart (Refuse x) = a
+  stepped-apart (At k) = converted-apart k (outcomeAt s k) refl
+
+pub next-apart : (o w : List ℕ) → Bytes o → Bytes w → (e : Event) (st : State) → Allowed e → SoundStore (st .store) → Apart (st .store)
+    → Apart (next o w e st .store)
+next-apart o w bo bw (reading n b) st h g a = a
+next-apart o w bo bw (adding n t) st h g a = added-apart o w bo bw (st .store) g a n t (h .0) (h .1) (addPlan o w (st .store) n t) refl
+next-apart o w bo bw (revising n v t) st h g a = revised-apart o w bo bw (st .store) g a n v t (h .0) (h .2) (revisePlan o w (st .store) n v t) refl
+next-apart o w bo bw (removing n) st h g a = removed-apart o w bo bw (st .store) g a n (removePlan (st .store) n) refl
+next-apart o w bo bw (stepping c) st h g a = stepped-apart o w bo bw (st .store) g a (stepPlan o w (st .store) (st .place c))

@@ -1,0 +1,129 @@
+-- Demand 3, first part: from a sound store, with two keys of an allowed length, the answers along any list of events are the plain list's, and
+-- afterwards what the store's texts decipher to is the plain list.
+-- Assumes nothing.
+use mathlib.Core.Path.{_≡_, refl, sym, ap, ap₂, _∙_}
+use mathlib.Core.Bool.{true, false}
+use mathlib.Core.List.{List, [], _∷_, _++_}
+use Prim.Native.Nat.{ℕ, _+_, _≤_, _<_}
+use native.Mathlib.Omega.{arith}
+use borrow.Author.Tests.{eqb-false}
+use lib.ListN.{length, drop}
+use Rattle.block.specs.Bytes.{Bytes}
+use Rattle.block.proofs.RowLaws.{bytes-row}
+use Rattle.slots.specs.Record.{num, rev, len, sound}
+use Rattle.slots.specs.Text.{textOf}
+use Rattle.slots.specs.Slots.{slots, slot, find}
+use Rattle.slots.proofs.FieldLaws.{sound-len}
+use Rattle.slots.proofs.FindLaws.{find-has, length-slot}
+use Rattle.slots.proofs.TextLaws.{length-textOf}
+use Rattle.store.specs.declared.Plan.{Plan}
+use Rattle.store.specs.declared.Plan.the-variants.{Refuse, At}
+use Rattle.store.specs.declared.Text.the-variants.{Read}
+use Rattle.store.specs.declared.Stored.the-variants.{Revision}
+use Rattle.store.specs.Plans.{badKeys, readPlan, addPlan, revisePlan, removePlan, stepPlan, readAtPlan}
+use Rattle.store.specs.Calls.{readAnswer, readBuffer, addAnswer, reviseAnswer, removeAnswer}
+use Rattle.store.proofs.PlanLaws.{passed, slotOf, there}
+use Rattle.claims.specs.Plain.{Place, nothing, holding, revisionOf, textIn, at, readIn, addIn, reviseIn, removeIn, readText, readInto, added, afterAdd, revised, afterRevise, gone, afterRemove}
+use Rattle.claims.specs.View.{plain}
+use Rattle.claims.specs.Machine.{Event, reading, adding, revising, removing, stepping, Allowed, AllAllowed, Answer, ofRead, ofStored, ofRemoved, ofStep, State, answer, next, answers, final, listAnswer, listNext, listAnswers, listFinal}
+use Rattle.claims.proofs.Simulation.{SoundStore, held, read-plain, add-plain, revise-plain, remove-plain}
+use Rattle.claims.proofs.Effects.{Revised, revise-says, effect-remove, effect-add, effect-revise, effect-step}
+
+-- a plan of read that ends at slot k: the slot is used
+read-used : (o w s : List ℕ) (n b k : ℕ) → readPlan o w s n b ≡ At k → (k < slots s) × (num (slot s k) ≡ 0 → ⊥)
+unfolding readPlan readAtPlan
+read-used o w s n b k e =
+    let p1 = passed _ _ _ k e in
+    let p2 = passed _ _ _ k (p1 .1) in
+    let p3 = passed _ _ _ k (p2 .1) in
+    let p4 = passed _ _ _ k (p3 .1) in
+    let p5 = passed _ _ _ k (p4 .1) in
+    let p6 = passed _ _ _ k (p5 .1) in
+    let p7 = passed _ _ _ k (p6 .1) in
+    let f : find s n ≡ k = ap slotOf (p7 .1) in
+    let h : find s n < slots s = there s n (p4 .0) in
+    (omega arith, λ q. eqb-false n 0 (p3 .0) (sym (find-has s n h) ∙ ap (λ (j : ℕ). num (slot s j)) f ∙ q))
+
+module _ (o w : List ℕ) (keys : badKeys o w ≡ false) (bo : Bytes o) (bw : Bytes w) where
+  module _ (s : List ℕ) (g : SoundStore s) where
+    -- the text and the revision of the slot found are those of its place
+    read-same : (n : ℕ) (b : List ℕ) (p : Plan) → readPlan o w s n (length b) ≡ p
+        → (readAnswer s p ≡ readText (plain o w s) p) × (readBuffer o w s b p ≡ readInto (plain o w s) b p)
+    read-same n b (Refuse x) e = (refl, refl)
+    read-same n b (At k) e =
+        let c = read-used o w s n (length b) k e in
+        let r : List ℕ = slot s k in
+        let d = sound-len r (g .each k (c .0)) (c .1) in
+        let q : at (plain o w s) k ≡ holding (num r) (rev r) (textOf o w r) = held o w s keys bo bw g k (c .0) (c .1) in
+        let m : length (textOf o w r) ≡ len r = length-textOf r o w bo bw (bytes-row 2112 s k (g .bytes)) (omega (arith, d, length-slot s k (c .0))) in (
+          ap (λ (j : ℕ). Read j (rev r)) (sym m) ∙ ap (λ (x : Place). Read (length (textIn x)) (revisionOf x)) (sym q),
+          ap (λ (j : ℕ). textOf o w r ++ drop j b) (sym m) ∙ ap (λ (x : Place). textIn x ++ drop (length (textIn x)) b) (sym q),
+        )
+
+    add-same : (p : Plan) → addAnswer p ≡ added p
+    add-same (Refuse x) = refl
+    add-same (At k) = refl
+
+    remove-same : (p : Plan) → removeAnswer p ≡ gone p
+    remove-same (Refuse x) = refl
+    remove-same (At k) = refl
+
+    revise-same : (n v : ℕ) (t : List ℕ) (p : Plan) → revisePlan o w s n v t ≡ p → reviseAnswer s p ≡ revised (plain o w s) p
+    revise-same n v t (Refuse x) e = refl
+    revise-same n v t (At k) e =
+        let a = revise-says o w s n v t k e in
+        let u : num (slot s k) ≡ 0 → ⊥ = λ q. a .some (sym (a .number) ∙ q) in
+        ap (λ (j : ℕ). Revision (j + 1)) (sym (ap revisionOf (held o w s keys bo bw g k (a .within) u)))
+
+  -- one event
+  one-answer : (e : Event) (st : State) → SoundStore (st .store) → answer o w e st ≡ listAnswer e (plain o w (st .store))
+  one-answer (reading n b) st g =
+      let s : List ℕ = st .store in
+      let c = read-same s g n b (readPlan o w s n (length b)) refl in
+      ap₂ ofRead (c .0) (c .1)
+      ∙ ap (λ (p : Plan). ofRead (readText (plain o w s) p) (readInto (plain o w s) b p)) (read-plain o w s keys bo bw g n (length b))
+  one-answer (adding n t) st g =
+      let s : List ℕ = st .store in
+      ap ofStored (add-same s g (addPlan o w s n t) ∙ ap added (add-plain o w s keys bo bw g n t))
+  one-answer (revising n v t) st g =
+      let s : List ℕ = st .store in
+      ap ofStored (revise-same s g n v t (revisePlan o w s n v t) refl ∙ ap (revised (plain o w s)) (revise-plain o w s keys bo bw g n v t))
+  one-answer (removing n) st g =
+      let s : List ℕ = st .store in
+      ap ofRemoved (remove-same s g (removePlan s n) ∙ ap gone (remove-plain o w s keys bo bw g n))
+  one-answer (stepping c) st g = refl
+
+  pub one-next : (e : Event) (st : State) → Allowed e → SoundStore (st .store)
+      → (plain o w (next o w e st .store) ≡ listNext e (plain o w (st .store))) × SoundStore (next o w e st .store)
+  one-next (reading n b) st a g = (refl, g)
+  one-next (adding n t) st a g =
+      let s : List ℕ = st .store in
+      let c = effect-add o w s keys bo bw g n t (a .0) (a .1) (addPlan o w s n t) refl in
+      (c .0 ∙ ap (afterAdd (plain o w s) n t) (add-plain o w s keys bo bw g n t), c .1)
+  one-next (revising n v t) st a g =
+      let s : List ℕ = st .store in
+      let c = effect-revise o w s keys bo bw g n v t (a .0) (a .2) (revisePlan o w s n v t) refl in
+      (c .0 ∙ ap (afterRevise (plain o w s) n t) (revise-plain o w s keys bo bw g n v t), c .1)
+  one-next (removing n) st a g =
+      let s : List ℕ = st .store in
+      let c = effect-remove o w s keys bo bw g n (removePlan s n) refl in
+      (c .0 ∙ ap (afterRemove (plain o w s)) (remove-plain o w s keys bo bw g n), c .1)
+  one-next (stepping c) st a g = effect-step o w s keys bo bw g (stepPlan o w s (st .place c))
+    where
+      s : List ℕ
+      s = st .store
+
+  -- along the whole trace
+  pub same-answers : (es : List Event) (st : State) → AllAllowed es → SoundStore (st .store) → answers o w es st ≡ listAnswers es (plain o w (st .store))
+  same-answers [] st a g = refl
+  same-answers (e ∷ es) st a g =
+      let c = one-next e st (a .0) g in
+      ap₂ (λ (x : Answer) (xs : List Answer). x ∷ xs) (one-answer e st g) (same-answers es (next o w e st) (a .1) (c .1) ∙ ap (listAnswers es) (c .0))
+
+  pub same-list : (es : List Event) (st : State) → AllAllowed es → SoundStore (st .store)
+      → (plain o w (final o w es st .store) ≡ listFinal es (plain o w (st .store))) × SoundStore (final o w es st .store)
+  same-list [] st a g = (refl, g)
+  same-list (e ∷ es) st a g =
+      let c = one-next e st (a .0) g in
+      let d = same-list es (next o w e st) (a .1) (c .1) in
+      (d .0 ∙ ap (listFinal es) (c .0), d .1)

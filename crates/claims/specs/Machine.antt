@@ -1,0 +1,107 @@
+-- Demand 3: whole calls one after another. The machine runs the calls' own definitions on the store's bytes, with the old key o and the new
+-- key w; beside it the plain list, to which a step does nothing.
+-- Assumes nothing.
+use mathlib.Core.Bool.{cond}
+use mathlib.Core.List.{List, [], _∷_}
+use Prim.Native.Nat.{ℕ, _<_}
+use lib.Dec.{eqb}
+use lib.ListN.{length}
+use Rattle.block.specs.Bytes.{Bytes}
+use Rattle.store.specs.declared.Text.{Text}
+use Rattle.store.specs.declared.Stored.{Stored}
+use Rattle.store.specs.declared.Removed.{Removed}
+use Rattle.store.specs.declared.Stepped.{Stepped}
+use Rattle.store.specs.declared.Stepped.the-variants.{Went, Refused}
+use Rattle.store.specs.Plans.{readPlan, addPlan, revisePlan, removePlan, stepPlan}
+use Rattle.store.specs.Calls.{readAnswer, readBuffer, addAnswer, addStore, reviseAnswer, reviseStore, removeAnswer, removeStore, stepAnswer, stepStore}
+use Rattle.claims.specs.Plain.{Place, readIn, addIn, reviseIn, removeIn, readText, readInto, added, afterAdd, revised, afterRevise, gone, afterRemove}
+
+-- read sheet n into the buffer b; add sheet n with text t; revise sheet n, seen at revision v, with text t; remove sheet n; a step of copy c
+pub data Event : Type 0 where
+  reading : ℕ → List ℕ → Event
+  adding : ℕ → List ℕ → Event
+  revising : ℕ → ℕ → List ℕ → Event
+  removing : ℕ → Event
+  stepping : ℕ → Event
+
+-- what the calls' types allow: numbers of 32 bits, and bytes
+abbrev pub Allowed : Event → Type 0
+Allowed (reading n b) = (n < 4294967296) × Bytes b
+Allowed (adding n t) = (n < 4294967296) × Bytes t
+Allowed (revising n v t) = (n < 4294967296) × (v < 4294967296) × Bytes t
+Allowed (removing n) = n < 4294967296
+Allowed (stepping c) = Unit {0}
+
+abbrev pub AllAllowed : List Event → Type 0
+AllAllowed [] = Unit {0}
+AllAllowed (e ∷ es) = Allowed e × AllAllowed es
+
+-- what operators get: of a read also the buffer afterwards; a step answers them nothing
+pub data Answer : Type 0 where
+  ofRead : Text → List ℕ → Answer
+  ofStored : Stored → Answer
+  ofRemoved : Removed → Answer
+  ofStep : Answer
+
+-- ---- the machine: the store's bytes, and the place of each copy of the job
+
+pub record State : Type 0 where
+  pub store : List ℕ
+  pub place : ℕ → ℕ
+
+-- the place of copy c moved
+abbrev pub moved : ℕ → Stepped → (ℕ → ℕ) → ℕ → ℕ
+moved c (Went x k) p i = cond (eqb i c) k (p i)
+moved c (Refused y) p i = p i
+
+module _ (o w : List ℕ) where
+  abbrev pub answer : Event → State → Answer
+  answer (reading n b) st =
+      ofRead (readAnswer (st .store) (readPlan o w (st .store) n (length b))) (readBuffer o w (st .store) b (readPlan o w (st .store) n (length b)))
+  answer (adding n t) st = ofStored (addAnswer (addPlan o w (st .store) n t))
+  answer (revising n v t) st = ofStored (reviseAnswer (st .store) (revisePlan o w (st .store) n v t))
+  answer (removing n) st = ofRemoved (removeAnswer (removePlan (st .store) n))
+  answer (stepping c) st = ofStep
+
+  abbrev pub next : Event → State → State
+  next (reading n b) st = st
+  next (adding n t) st = record { store = addStore w (st .store) n t (addPlan o w (st .store) n t); place = st .place }
+  next (revising n v t) st = record { store = reviseStore w (st .store) n t (revisePlan o w (st .store) n v t); place = st .place }
+  next (removing n) st = record { store = removeStore (st .store) (removePlan (st .store) n); place = st .place }
+  next (stepping c) st =
+      record {
+        store = stepStore o w (st .store) (stepPlan o w (st .store) (st .place c));
+        place = moved c (stepAnswer (st .store) (stepPlan o w (st .store) (st .place c))) (st .place);
+      }
+
+  abbrev pub answers : List Event → State → List Answer
+  answers [] st = []
+  answers (e ∷ es) st = answer e st ∷ answers es (next e st)
+
+  abbrev pub final : List Event → State → State
+  final [] st = st
+  final (e ∷ es) st = final es (next e st)
+
+-- ---- the plain list
+
+abbrev pub listAnswer : Event → List Place → Answer
+listAnswer (reading n b) l = ofRead (readText l (readIn l n (length b))) (readInto l b (readIn l n (length b)))
+listAnswer (adding n t) l = ofStored (added (addIn l n t))
+listAnswer (revising n v t) l = ofStored (revised l (reviseIn l n v t))
+listAnswer (removing n) l = ofRemoved (gone (removeIn l n))
+listAnswer (stepping c) l = ofStep
+
+abbrev pub listNext : Event → List Place → List Place
+listNext (reading n b) l = l
+listNext (adding n t) l = afterAdd l n t (addIn l n t)
+listNext (revising n v t) l = afterRevise l n t (reviseIn l n v t)
+listNext (removing n) l = afterRemove l (removeIn l n)
+listNext (stepping c) l = l
+
+abbrev pub listAnswers : List Event → List Place → List Answer
+listAnswers [] l = []
+listAnswers (e ∷ es) l = listAnswer e l ∷ listAnswers es (listNext e l)
+
+abbrev pub listFinal : List Event → List Place → List Place
+listFinal [] l = l
+listFinal (e ∷ es) l = listFinal es (listNext e l)
