@@ -65,6 +65,7 @@ pub record Added (s : List ℕ) (n : ℕ) (t : List ℕ) (k : ℕ) : Type 0 wher
   pub long : 16 ≤ length t
   pub fits : length t ≤ 2096
   pub new : find s n ≡ slots s
+  pub free : num (slot s k) ≡ 0
 
 pub add-says : (o w s : List ℕ) (n : ℕ) (t : List ℕ) (k : ℕ) → addPlan o w s n t ≡ At k → Added s n t k
 unfolding addPlan
@@ -82,6 +83,7 @@ add-says o w s n t k e =
       long = long-enough t (p4 .0);
       fits = text-fits t (p4 .0);
       new = eqb-true (find s n) (slots s) (not-false (absent s n) (p5 .0));
+      free = sym (ap (λ (j : ℕ). num (slot s j)) f) ∙ find-has s 0 (there s 0 (p6 .0));
     }
 
 pub record Revised (s : List ℕ) (n v : ℕ) (t : List ℕ) (k : ℕ) : Type 0 where
@@ -91,6 +93,7 @@ pub record Revised (s : List ℕ) (n v : ℕ) (t : List ℕ) (k : ℕ) : Type 0 
   pub fits : length t ≤ 2096
   pub number : num (slot s k) ≡ n
   pub seen : v ≡ rev (slot s k)
+  pub place : find s n ≡ k
   pub below : rev (slot s k) ≡ 65535 → ⊥
 
 pub revise-says : (o w s : List ℕ) (n v : ℕ) (t : List ℕ) (k : ℕ) → revisePlan o w s n v t ≡ At k → Revised s n v t k
@@ -113,6 +116,7 @@ revise-says o w s n v t k e =
       fits = text-fits t (p4 .0);
       number = sym (ap (λ (j : ℕ). num (slot s j)) f) ∙ find-has s n (there s n (p5 .0));
       seen = r ∙ ap (λ (j : ℕ). rev (slot s j)) f;
+      place = f;
       below = λ q. eqb-false (rev (slot s (find s n))) 65535 (p8 .0) (ap (λ (j : ℕ). rev (slot s j)) f ∙ q);
     }
 

@@ -7,3 +7,5 @@ pub mod Traces
 pub mod Checking
 pub mod StaysChecked
 pub mod PlainList
+pub mod LastSlot
+pub mod OneOfTwo

@@ -52,7 +52,7 @@ set-places f g i (suc n) (suc k) h e =
 
 -- ---- two tests that agree find the same
 
-scan-same : (p q : ℕ → Bool) (i n : ℕ) → ((j : ℕ) → i ≤ j → j < i + n → p j ≡ q j) → scan p i n ≡ scan q i n
+pub scan-same : (p q : ℕ → Bool) (i n : ℕ) → ((j : ℕ) → i ≤ j → j < i + n → p j ≡ q j) → scan p i n ≡ scan q i n
 unfolding scan
 scan-same p q i zero h = refl
 scan-same p q i (suc n) h =

@@ -1,0 +1,243 @@
+-- Demand 3, second part: once a copy begun at slot 0 has made as many steps as there are slots, whatever came between, no sheet is marked clear
+-- or old key; and since this holds of every longer list of events too, none ever is again.
+-- Assumes nothing.
+use mathlib.Core.Path.{_≡_, refl, sym, ap, ap₂, _∙_, subst}
+use mathlib.Core.Bool.{Bool, true, false, cond, not, _||_}
+use mathlib.Core.List.{List, [], _∷_}
+use Prim.Native.Nat.{ℕ, zero, suc, _+_, _≤_, _<_}
+use native.Mathlib.Omega.{arith}
+use borrow.Author.Tests.{eqb-true, eqb-false, eq-eqb, leb-true, leb-false}
+use lib.Dec.{eqb, leb}
+use lib.ListN.{length}
+use Rattle.block.specs.Bytes.{Bytes}
+use Rattle.block.proofs.RowLaws.{bytes-row}
+use Rattle.eme2.specs.Transform.{afterwards}
+use Rattle.slots.specs.Record.{num, rev, mark, len, sound, lead}
+use Rattle.slots.specs.Text.{textOf, sheet}
+use Rattle.slots.specs.Slots.{slots, slot, put, emptied}
+use Rattle.slots.proofs.FieldLaws.{sound-len}
+use Rattle.slots.proofs.FindLaws.{length-slot}
+use Rattle.slots.proofs.RecordLaws.{mark-record}
+use Rattle.slots.proofs.TextLaws.{length-textOf}
+use Rattle.store.specs.declared.Plan.{Plan}
+use Rattle.store.specs.declared.Plan.the-variants.{Refuse, At}
+use Rattle.store.specs.declared.Outcome.{Outcome}
+use Rattle.store.specs.declared.Outcome.the-variants.{Done, Free, Damaged, Already, Converted}
+use Rattle.store.specs.declared.Stepped.the-variants.{Went}
+use Rattle.store.specs.Plans.{badKeys, badSize, addPlan, revisePlan, removePlan, stepPlan}
+use Rattle.store.specs.Calls.{addStore, reviseStore, removeStore, recordOutcome, outcomeAt, movedFrom, convertedAt, stepAnswer, stepStore}
+use Rattle.store.proofs.PlanLaws.{no, remove-at}
+use Rattle.store.proofs.RoundTrip.{length-sheet}
+use Rattle.claims.specs.Machine.{Event, reading, adding, revising, removing, stepping, Allowed, AllAllowed, State, moved, next, final}
+use Rattle.claims.specs.Rekeying.{ready, stepsOf}
+use Rattle.claims.proofs.ViewLaws.{slot-other}
+use Rattle.claims.proofs.Simulation.{SoundStore}
+use Rattle.claims.proofs.Keeping.{length-emptied, slots-put, slot-put}
+use Rattle.claims.proofs.Effects.{add-says, revise-says, converts, bytes-textOf}
+use Rattle.claims.proofs.Traces.{one-next}
+use Rattle.claims.proofs.Checking.{Passes, passes-sound}
+
+-- every slot below p is free or under the new key
+abbrev Behind : ℕ → List ℕ → Type 0
+Behind p s = (j : ℕ) → j < p → j < slots s → ready (slot s j) ≡ true
+
+or-true : (a : Bool) → a || true ≡ true
+or-true true = refl
+or-true false = refl
+
+ready-emptied : ready emptied ≡ true
+unfolding num
+ready-emptied = refl
+
+ready-sheet : (w : List ℕ) (n v : ℕ) (t : List ℕ) → ready (sheet w n v t) ≡ true
+unfolding sheet
+ready-sheet w n v t =
+    let x : List ℕ = afterwards false w (lead n v 2 (length t)) t in
+    ap (λ (b : Bool). eqb (num (sheet w n v t)) 0 || b) (eq-eqb (mark (sheet w n v t)) 2 (mark-record n v 2 x)) ∙ or-true (eqb (num (sheet w n v t)) 0)
+
+-- a slot written so that it is ready
+module _ (s : List ℕ) (k : ℕ) (h : k < slots s) (x : List ℕ) (l : length x ≡ 2112) (r : ready x ≡ true) where
+  behind-put : (p : ℕ) → Behind p s → Behind p (put s k x)
+  behind-put p b j hj hs = by-slot (eqb j k) refl
+    where
+      by-slot : (t : Bool) → eqb j k ≡ t → ready (slot (put s k x) j) ≡ true
+      by-slot true e = ap (λ (i : ℕ). ready (slot (put s k x) i)) (eqb-true j k e) ∙ ap ready (slot-put s k h x l) ∙ r
+      by-slot false e = ap ready (slot-other s k h x l j (eqb-false j k e)) ∙ b j hj (omega (arith, slots-put s k h x l))
+
+  -- and the slot itself with it
+  behind-more : Behind k s → Behind (k + 1) (put s k x)
+  behind-more b j hj hs = by-slot (eqb j k) refl
+    where
+      by-slot : (t : Bool) → eqb j k ≡ t → ready (slot (put s k x) j) ≡ true
+      by-slot true e = ap (λ (i : ℕ). ready (slot (put s k x) i)) (eqb-true j k e) ∙ ap ready (slot-put s k h x l) ∙ r
+      by-slot false e =
+          let z : j ≡ k → ⊥ = eqb-false j k e in
+          ap ready (slot-other s k h x l j z) ∙ b j (omega (arith, z)) (omega (arith, slots-put s k h x l))
+
+-- the slot at the place is ready as it stands
+behind-next : (s : List ℕ) (k : ℕ) → ready (slot s k) ≡ true → Behind k s → Behind (k + 1) s
+behind-next s k r b j hj hs = by-slot (eqb j k) refl
+  where
+    by-slot : (t : Bool) → eqb j k ≡ t → ready (slot s j) ≡ true
+    by-slot true e = ap (λ (i : ℕ). ready (slot s i)) (eqb-true j k e) ∙ r
+    by-slot false e = let z : j ≡ k → ⊥ = eqb-false j k e in b j (omega (arith, z)) hs
+
+-- ---- the outcomes of a step
+
+-- what an outcome says of the slot at the place
+abbrev Says : List ℕ → ℕ → Outcome → Type 0
+Says s k Done = slots s ≤ k
+Says s k Free = (k < slots s) × (ready (slot s k) ≡ true)
+Says s k Damaged = (k < slots s) × (sound (slot s k) ≡ false)
+Says s k Already = (k < slots s) × (ready (slot s k) ≡ true)
+Says s k Converted = k < slots s
+
+says : (s : List ℕ) (k : ℕ) → Says s k (outcomeAt s k)
+unfolding outcomeAt recordOutcome
+says s k = by-tests (leb (slots s) k) (eqb (num (slot s k)) 0) (sound (slot s k)) (eqb (mark (slot s k)) 2) refl refl refl refl
+  where
+    by-tests : (a b c d : Bool) → leb (slots s) k ≡ a → eqb (num (slot s k)) 0 ≡ b → sound (slot s k) ≡ c → eqb (mark (slot s k)) 2 ≡ d
+        → Says s k (cond a Done (cond b Free (cond (not c) Damaged (cond d Already Converted))))
+    by-tests true b c d p q r m = leb-true (slots s) k p
+    by-tests false true c d p q r m = (leb-false (slots s) k p, ap (λ (t : Bool). t || eqb (mark (slot s k)) 2) q)
+    by-tests false false false d p q r m = (leb-false (slots s) k p, r)
+    by-tests false false true true p q r m =
+        (leb-false (slots s) k p, ap (λ (t : Bool). eqb (num (slot s k)) 0 || t) m ∙ or-true (eqb (num (slot s k)) 0))
+    by-tests false false true false p q r m = leb-false (slots s) k p
+
+module _ (o w s : List ℕ) (bo : Bytes o) (bw : Bytes w) (g : SoundStore s) where
+  -- no slot of a sound store is damaged
+  undamaged : (k : ℕ) → Says s k Damaged → ⊥
+  undamaged k c = let z : _≡_ {A = ℕ} 1 0 = ap (λ (t : Bool). cond t 1 0) (sym (g .each k (c .0)) ∙ c .1) in let y : ⊥ = omega arith in y
+
+  whole-sheet : (k : ℕ) → outcomeAt s k ≡ Converted → length (sheet w (num (slot s k)) (rev (slot s k)) (textOf o w (slot s k))) ≡ 2112
+  whole-sheet k e =
+      let c = converts s k e in
+      let r : List ℕ = slot s k in
+      let br : Bytes r = bytes-row 2112 s k (g .bytes) in
+      let b = sound-len r (g .each k (c .0)) (c .1) in
+      let lt : length (textOf o w r) ≡ len r = length-textOf r o w bo bw br (omega (arith, b, length-slot s k (c .0))) in
+      length-sheet w (num r) (rev r) (textOf o w r) bw (bytes-textOf o w r bo bw br) (omega (arith, b))
+
+  slots-converted : (k : ℕ) (x : Outcome) → outcomeAt s k ≡ x → slots (convertedAt o w s k x) ≡ slots s
+  slots-converted k Done e = refl
+  slots-converted k Free e = refl
+  slots-converted k Damaged e = refl
+  slots-converted k Already e = refl
+  slots-converted k Converted e = slots-put s k (converts s k e .0) (sheet w (num (slot s k)) (rev (slot s k)) (textOf o w (slot s k))) (whole-sheet k e)
+
+  behind-others : (p k : ℕ) (x : Outcome) → outcomeAt s k ≡ x → Behind p s → Behind p (convertedAt o w s k x)
+  behind-others p k Done e b = b
+  behind-others p k Free e b = b
+  behind-others p k Damaged e b = b
+  behind-others p k Already e b = b
+  behind-others p k Converted e b =
+      behind-put s k (converts s k e .0) (sheet w (num (slot s k)) (rev (slot s k)) (textOf o w (slot s k))) (whole-sheet k e)
+      (ready-sheet w (num (slot s k)) (rev (slot s k)) (textOf o w (slot s k))) p b
+
+  behind-own : (k : ℕ) (x : Outcome) → outcomeAt s k ≡ x → Behind k s → Behind (movedFrom k x) (convertedAt o w s k x)
+  behind-own k Done e b = b
+  behind-own k Free e b = behind-next s k (subst (Says s k) e (says s k) .1) b
+  behind-own k Damaged e b = absurd (undamaged k (subst (Says s k) e (says s k)))
+  behind-own k Already e b = behind-next s k (subst (Says s k) e (says s k) .1) b
+  behind-own k Converted e b =
+      behind-more s k (converts s k e .0) (sheet w (num (slot s k)) (rev (slot s k)) (textOf o w (slot s k))) (whole-sheet k e)
+      (ready-sheet w (num (slot s k)) (rev (slot s k)) (textOf o w (slot s k))) b
+
+  further : (n k : ℕ) (x : Outcome) → outcomeAt s k ≡ x → (k < slots s → n ≤ k) → movedFrom k x < slots s → suc n ≤ movedFrom k x
+  further n k Done e f h = let d : slots s ≤ k = subst (Says s k) e (says s k) in let z : ⊥ = omega arith in absurd z
+  further n k Free e f h = let d : n ≤ k = f (subst (Says s k) e (says s k) .0) in omega arith
+  further n k Damaged e f h = let d : n ≤ k = f (subst (Says s k) e (says s k) .0) in omega arith
+  further n k Already e f h = let d : n ≤ k = f (subst (Says s k) e (says s k) .0) in omega arith
+  further n k Converted e f h = let d : n ≤ k = f (subst (Says s k) e (says s k)) in omega arith
+
+-- with keys and a store of allowed sizes a step is never refused
+step-taken : (o w s : List ℕ) (k : ℕ) → badKeys o w ≡ false → badSize s ≡ false → stepPlan o w s k ≡ At k
+unfolding stepPlan
+step-taken o w s k a b = no _ _ _ a ∙ no _ _ _ b
+
+-- ---- a copy that has made n steps: the slots behind it are ready, and it is n on or past the end
+
+abbrev Reached : ℕ → ℕ → List ℕ → Type 0
+Reached n p s = Behind p s × (p < slots s → n ≤ p)
+
+module _ (o w : List ℕ) (keys : badKeys o w ≡ false) (bo : Bytes o) (bw : Bytes w) (c : ℕ) where
+  module _ (s : List ℕ) (g : SoundStore s) (n p : ℕ) (r : Reached n p s) where
+    kept-by-remove : (i : ℕ) (q : Plan) → removePlan s i ≡ q → Reached n p (removeStore s q)
+    kept-by-remove i (Refuse x) e = r
+    kept-by-remove i (At k) e =
+        let h : k < slots s = remove-at s i k e in
+        (behind-put s k h emptied length-emptied ready-emptied p (r .0), λ a. r .1 (omega (arith, slots-put s k h emptied length-emptied)))
+
+    kept-by-add : (i : ℕ) (t : List ℕ) → Bytes t → (q : Plan) → addPlan o w s i t ≡ q → Reached n p (addStore w s i t q)
+    kept-by-add i t bt (Refuse x) e = r
+    kept-by-add i t bt (At k) e =
+        let a = add-says o w s i t k e in
+        let l : length (sheet w i 1 t) ≡ 2112 = length-sheet w i 1 t bw bt (a .fits) in
+        (behind-put s k (a .within) (sheet w i 1 t) l (ready-sheet w i 1 t) p (r .0), λ b. r .1 (omega (arith, slots-put s k (a .within) (sheet w i 1 t) l)))
+
+    kept-by-revise : (i v : ℕ) (t : List ℕ) → Bytes t → (q : Plan) → revisePlan o w s i v t ≡ q → Reached n p (reviseStore w s i t q)
+    kept-by-revise i v t bt (Refuse x) e = r
+    kept-by-revise i v t bt (At k) e =
+        let a = revise-says o w s i v t k e in
+        let x : List ℕ = sheet w i (rev (slot s k) + 1) t in
+        let l : length x ≡ 2112 = length-sheet w i (rev (slot s k) + 1) t bw bt (a .fits) in
+        (behind-put s k (a .within) x l (ready-sheet w i (rev (slot s k) + 1) t) p (r .0), λ b. r .1 (omega (arith, slots-put s k (a .within) x l)))
+
+  -- the step of a copy d, seen from copy c
+  by-a-step : (st : State) → SoundStore (st .store) → (n d : ℕ) → Reached n (st .place c) (st .store)
+      → Reached (cond (eqb c d) (suc n) n) (next o w (stepping d) st .place c) (next o w (stepping d) st .store)
+  by-a-step st g n d r =
+      subst (λ (q : Plan). Reached (cond (eqb c d) (suc n) n) (moved d (stepAnswer s q) (st .place) c) (stepStore o w s q)) (sym plan) (by-copy (eqb c d) refl)
+    where
+      s : List ℕ
+      s = st .store
+
+      k : ℕ
+      k = st .place d
+
+      x : Outcome
+      x = outcomeAt s k
+
+      plan : stepPlan o w s k ≡ At k
+      plan = step-taken o w s k keys (g .size)
+
+      same : slots (convertedAt o w s k x) ≡ slots s
+      same = slots-converted o w s bo bw g k x refl
+
+      by-copy : (t : Bool) → eqb c d ≡ t → Reached (cond t (suc n) n) (cond t (movedFrom k x) (st .place c)) (convertedAt o w s k x)
+      by-copy true e =
+          let q : st .place c ≡ k = ap (st .place) (eqb-true c d e) in
+          let b : Behind k s = subst (λ (i : ℕ). Behind i s) q (r .0) in
+          (behind-own o w s bo bw g k x refl b, λ a. further o w s bo bw g n k x refl (λ y. let z : n ≤ st .place c = r .1 (omega arith) in omega arith) (omega (arith, same)))
+      by-copy false e = (behind-others o w s bo bw g (st .place c) k x refl (r .0), λ a. r .1 (omega (arith, same)))
+
+  reached : (es : List Event) (st : State) → AllAllowed es → SoundStore (st .store) → (n : ℕ) → Reached n (st .place c) (st .store)
+      → Reached (n + stepsOf c es) (final o w es st .place c) (final o w es st .store)
+  reached [] st a g n r = (r .0, λ h. let z : n ≤ st .place c = r .1 h in omega arith)
+  reached (reading i b ∷ es) st a g n r = reached es st (a .1) g n r
+  reached (adding i t ∷ es) st a g n r =
+      reached es (next o w (adding i t) st) (a .1) (one-next o w keys bo bw (adding i t) st (a .0) g .1) n
+      (kept-by-add (st .store) g n (st .place c) r i t (a .0 .1) (addPlan o w (st .store) i t) refl)
+  reached (revising i v t ∷ es) st a g n r =
+      reached es (next o w (revising i v t) st) (a .1) (one-next o w keys bo bw (revising i v t) st (a .0) g .1) n
+      (kept-by-revise (st .store) g n (st .place c) r i v t (a .0 .2) (revisePlan o w (st .store) i v t) refl)
+  reached (removing i ∷ es) st a g n r =
+      reached es (next o w (removing i) st) (a .1) (one-next o w keys bo bw (removing i) st (a .0) g .1) n
+      (kept-by-remove (st .store) g n (st .place c) r i (removePlan (st .store) i) refl)
+  reached (stepping d ∷ es) st a g n r =
+      let q = reached es (next o w (stepping d) st) (a .1) (one-next o w keys bo bw (stepping d) st (a .0) g .1) (cond (eqb c d) (suc n) n) (by-a-step st g n d r) in
+      (q .0, λ h. subst (λ (m : ℕ). m ≤ final o w (stepping d ∷ es) st .place c) (sum (eqb c d)) (q .1 h))
+    where
+      sum : (t : Bool) → cond t (suc n) n + stepsOf c es ≡ n + cond t (suc (stepsOf c es)) (stepsOf c es)
+      sum true = omega arith
+      sum false = refl
+
+  -- its steps are counted, and not its place
+  pub no-sheet-left : (st : State) → Bytes (st .store) → Passes (st .store) → st .place c ≡ 0 → (es : List Event) → AllAllowed es
+      → slots (final o w es st .store) ≤ stepsOf c es
+      → (k : ℕ) → k < slots (final o w es st .store) → ready (slot (final o w es st .store) k) ≡ true
+  no-sheet-left st bs ok z es a h k hk =
+      let q = reached es st a (passes-sound (st .store) bs ok) 0 ((λ j x y. let v : ⊥ = omega arith in absurd v), λ x. omega arith) in
+      let f : final o w es st .place c < slots (final o w es st .store) → ⊥ = λ x. let y : 0 + stepsOf c es ≤ final o w es st .place c = q .1 x in let v : ⊥ = omega arith in v in
+      q .0 k (omega (arith, f)) hk
