@@ -1,29 +1,26 @@
 -- A store passes the check exactly where its slots are all sound and no sheet number other than 0 stands twice; and every call keeps it so.
 -- Assumes nothing.
-use mathlib.Core.Path.{_≡_, refl, sym, ap, ap₂, _∙_, subst}
+use mathlib.Core.Path.{_≡_, refl, sym, ap, ap₂, _∙_}
 use mathlib.Core.Bool.{Bool, true, false, cond, not, _&&_, _||_}
 use mathlib.Core.List.{List}
 use Prim.Native.Nat.{ℕ, _≤_, _<_}
 use native.Mathlib.Omega.{arith}
-use borrow.Author.Tests.{eqb-true, eqb-false, ne-eqb, eq-eqb, ltb-true, ltb-false, le-ltb, not-false}
+use borrow.Author.Tests.{eqb-true, eqb-false, ltb-false, le-ltb}
 use lib.Dec.{eqb, ltb}
 use lib.ListN.{length}
 use Rattle.block.specs.Bytes.{Bytes}
 use Rattle.slots.specs.Record.{num, sound}
 use Rattle.slots.specs.Slots.{slots, slot, put, lowest, find}
-use Rattle.slots.proofs.FindLaws.{find-le, find-has, find-lowest, lowest-le, lowest-has, lowest-below}
+use Rattle.slots.proofs.FindLaws.{find-has, find-lowest, lowest-has, lowest-below}
 use Rattle.store.specs.declared.Checked.{Checked}
 use Rattle.store.specs.declared.Checked.the-variants.{Counts, Fault, Refused}
 use Rattle.store.specs.declared.Refusal.the-variants.{StoreSize}
 use Rattle.store.specs.Plans.{badSize}
 use Rattle.store.specs.Calls.{faulty, firstFault, counts, checkAnswer}
+use Rattle.claims.specs.Claims.{Passes}
 use Rattle.claims.proofs.Simulation.{SoundStore}
 use Rattle.claims.proofs.Keeping.{slots-put, slot-put}
 use Rattle.claims.proofs.ViewLaws.{slot-other}
-
--- the check call answers with the five counts
-abbrev pub Passes : List ℕ → Type 0
-Passes s = checkAnswer s ≡ counts s
 
 -- no sheet number other than 0 stands twice
 abbrev pub Apart : List ℕ → Type 0

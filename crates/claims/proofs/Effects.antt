@@ -1,7 +1,7 @@
 -- What each call leaves in a sound store is, seen as a plain list, what the list's call leaves; a step leaves the list as it was; and the
 -- store stays sound.
 -- Assumes nothing.
-use mathlib.Core.Path.{_≡_, refl, sym, ap, ap₂, _∙_}
+use mathlib.Core.Path.{_≡_, refl, sym, ap, _∙_}
 use mathlib.Core.Bool.{Bool, true, false, cond, not}
 use mathlib.Core.List.{List, [], _∷_}
 use Prim.Native.Nat.{ℕ, zero, suc, _+_, _≤_, _<_}
@@ -9,7 +9,7 @@ use native.Mathlib.Nat.{not-suc-le-zero, le-of-suc-le-suc}
 use native.Mathlib.Omega.{arith}
 use borrow.Author.Tests.{eqb-true, eqb-false, leb-false, not-false}
 use lib.Dec.{eqb, leb, lit<}
-use lib.ListN.{length, getD, take, drop, set}
+use lib.ListN.{length, take, drop, set}
 use Rattle.block.specs.Bytes.{Bytes}
 use Rattle.block.proofs.BytesLaws.{bytes-zeros, bytes-take, bytes-drop}
 use Rattle.block.proofs.RowLaws.{bytes-row}
@@ -17,7 +17,7 @@ use Rattle.eme2.specs.Transform.{afterwards}
 use Rattle.eme2.proofs.Promise.{bytes-kept}
 use Rattle.slots.specs.Record.{num, rev, mark, len, leadOf, stored, sound}
 use Rattle.slots.specs.Text.{textOf, sheet}
-use Rattle.slots.specs.Slots.{slots, slot, put, emptied, find}
+use Rattle.slots.specs.Slots.{slots, slot, emptied, find}
 use Rattle.slots.proofs.FieldLaws.{sound-len, sound-fields, num-bound, rev-bound}
 use Rattle.slots.proofs.FindLaws.{find-has, length-slot}
 use Rattle.slots.proofs.RecordLaws.{bytes-sheet}
@@ -26,15 +26,15 @@ use Rattle.store.specs.declared.Plan.{Plan}
 use Rattle.store.specs.declared.Plan.the-variants.{Refuse, At}
 use Rattle.store.specs.declared.Outcome.{Outcome}
 use Rattle.store.specs.declared.Outcome.the-variants.{Done, Free, Damaged, Already, Converted}
-use Rattle.store.specs.Plans.{badKeys, badText, absent, addPlan, revisePlan, reviseAtPlan, removePlan, stepPlan}
+use Rattle.store.specs.Plans.{badKeys, absent, addPlan, revisePlan, reviseAtPlan, removePlan}
 use Rattle.store.specs.Calls.{addStore, reviseStore, removeStore, recordOutcome, outcomeAt, convertedAt, stepStore}
 use Rattle.store.proofs.PlanLaws.{passed, slotOf, there, text-fits, long-enough, remove-at}
 use Rattle.store.proofs.RoundTrip.{length-sheet}
-use Rattle.claims.specs.Plain.{Place, nothing, holding, revisionOf, at, afterAdd, afterRevise, afterRemove}
+use Rattle.claims.specs.Plain.{Place, holding, revisionOf, at, afterAdd, afterRevise, afterRemove}
 use Rattle.claims.specs.View.{plain}
 use Rattle.claims.proofs.ViewLaws.{length-plain, put-plain}
 use Rattle.claims.proofs.Simulation.{SoundStore, held}
-use Rattle.claims.proofs.Keeping.{place-emptied, sound-emptied, length-emptied, place-sheet, sound-sheet, sound-put}
+use Rattle.claims.proofs.Keeping.{place-emptied, sound-emptied, length-emptied, place-sheet, sound-sheet, sound-put, num-sheet, rev-sheet}
 
 -- a place that is set to what it holds
 set-same : (l : List Place) (k : ℕ) → k < length l → set l k (at l k) ≡ l
@@ -120,10 +120,10 @@ revise-says o w s n v t k e =
       below = λ q. eqb-false (rev (slot s (find s n))) 65535 (p8 .0) (ap (λ (j : ℕ). rev (slot s j)) f ∙ q);
     }
 
--- a slot that a step converts is used
-pub converts : (s : List ℕ) (k : ℕ) → outcomeAt s k ≡ Converted → (k < slots s) × (num (slot s k) ≡ 0 → ⊥)
+-- a slot that a step converts is used and sound
+converts : (s : List ℕ) (k : ℕ) → outcomeAt s k ≡ Converted → (k < slots s) × (num (slot s k) ≡ 0 → ⊥) × (sound (slot s k) ≡ true)
 unfolding outcomeAt recordOutcome
-converts s k e = by-tests (leb (slots s) k) (eqb (num (slot s k)) 0) (sound (slot s k)) (eqb (mark (slot s k)) 2) refl refl e
+converts s k e = by-tests (leb (slots s) k) (eqb (num (slot s k)) 0) (sound (slot s k)) (eqb (mark (slot s k)) 2) refl refl refl e
   where
     which : Outcome → ℕ
     which Done = 0
@@ -132,12 +132,48 @@ converts s k e = by-tests (leb (slots s) k) (eqb (num (slot s k)) 0) (sound (slo
     which Already = 3
     which Converted = 4
 
-    by-tests : (a b c d : Bool) → leb (slots s) k ≡ a → eqb (num (slot s k)) 0 ≡ b
+    by-tests : (a b c d : Bool) → leb (slots s) k ≡ a → eqb (num (slot s k)) 0 ≡ b → sound (slot s k) ≡ c
         → cond a Done (cond b Free (cond (not c) Damaged (cond d Already Converted))) ≡ Converted
-        → (k < slots s) × (num (slot s k) ≡ 0 → ⊥)
-    by-tests true b c d p q x = let z : _≡_ {A = ℕ} 0 4 = ap which x in let y : ⊥ = omega arith in absurd y
-    by-tests false true c d p q x = let z : _≡_ {A = ℕ} 1 4 = ap which x in let y : ⊥ = omega arith in absurd y
-    by-tests false false c d p q x = (leb-false (slots s) k p, eqb-false (num (slot s k)) 0 q)
+        → (k < slots s) × (num (slot s k) ≡ 0 → ⊥) × (sound (slot s k) ≡ true)
+    by-tests true b c d p q r x = let z : _≡_ {A = ℕ} 0 4 = ap which x in let y : ⊥ = omega arith in absurd y
+    by-tests false true c d p q r x = let z : _≡_ {A = ℕ} 1 4 = ap which x in let y : ⊥ = omega arith in absurd y
+    by-tests false false false d p q r x = let z : _≡_ {A = ℕ} 2 4 = ap which x in let y : ⊥ = omega arith in absurd y
+    by-tests false false true d p q r x = (leb-false (slots s) k p, eqb-false (num (slot s k)) 0 q, r)
+
+-- the sheet that it becomes
+abbrev pub rekeyed : List ℕ → List ℕ → List ℕ → ℕ → List ℕ
+rekeyed o w s k = sheet w (num (slot s k)) (rev (slot s k)) (textOf o w (slot s k))
+
+pub record Rekeyed (o w s : List ℕ) (k : ℕ) : Type 0 where
+  pub within : k < slots s
+  pub used : num (slot s k) ≡ 0 → ⊥
+  pub bytes : Bytes (textOf o w (slot s k))
+  pub long : 16 ≤ length (textOf o w (slot s k))
+  pub fits : length (textOf o w (slot s k)) ≤ 2096
+  pub whole : length (rekeyed o w s k) ≡ 2112
+  pub number : num (rekeyed o w s k) ≡ num (slot s k)
+  pub revision : rev (rekeyed o w s k) ≡ rev (slot s k)
+
+pub convert-says : (o w s : List ℕ) (k : ℕ) → Bytes o → Bytes w → Bytes s → outcomeAt s k ≡ Converted → Rekeyed o w s k
+convert-says o w s k bo bw bs e =
+    let c = converts s k e in
+    let r : List ℕ = slot s k in
+    let br : Bytes r = bytes-row 2112 s k bs in
+    let b = sound-len r (c .2) (c .1) in
+    let t : List ℕ = textOf o w r in
+    let bt : Bytes t = bytes-textOf o w r bo bw br in
+    let lt : length t ≡ len r = length-textOf r o w bo bw br (omega (arith, b, length-slot s k (c .0))) in
+    let ht : length t ≤ 2096 = omega (arith, b) in
+    record {
+      within = c .0;
+      used = c .1;
+      bytes = bt;
+      long = omega (arith, b);
+      fits = ht;
+      whole = length-sheet w (num r) (rev r) t bw bt ht;
+      number = num-sheet w (num r) (rev r) t bw bt ht (num-bound r br);
+      revision = rev-sheet w (num r) (rev r) t bw bt ht (num-bound r br) (rev-bound r br);
+    }
 
 -- ---- the effects
 
@@ -185,26 +221,18 @@ module _ (o w s : List ℕ) (keys : badKeys o w ≡ false) (bo : Bytes o) (bw : 
   converted k Damaged e = (refl, g)
   converted k Already e = (refl, g)
   converted k Converted e =
-      let c = converts s k e in
-      let h : k < slots s = c .0 in
-      let u : num (slot s k) ≡ 0 → ⊥ = c .1 in
+      let c = convert-says o w s k bo bw (g .bytes) e in
       let r : List ℕ = slot s k in
       let br : Bytes r = bytes-row 2112 s k (g .bytes) in
-      let d : sound r ≡ true = g .each k h in
-      let b = sound-len r d u in
-      let f = sound-fields r d u in
+      let f = sound-fields r (g .each k (c .within)) (c .used) in
       let t : List ℕ = textOf o w r in
-      let bt : Bytes t = bytes-textOf o w r bo bw br in
-      let lt : length t ≡ len r = length-textOf r o w bo bw br (omega (arith, b, length-slot s k h)) in
-      let ht : length t ≤ 2096 = omega (arith, b) in
-      let x : List ℕ = sheet w (num r) (rev r) t in
-      let lx : length x ≡ 2112 = length-sheet w (num r) (rev r) t bw bt ht in
       let hn : num r < 4294967296 = num-bound r br in
       let hv : rev r < 65536 = rev-bound r br in (
-        put-plain o w s k x h lx
-            ∙ ap (set (plain o w s) k) (place-sheet w (num r) (rev r) t bw bt ht hn hv o u ∙ sym (held o w s keys bo bw g k h u))
-            ∙ set-same (plain o w s) k (omega (arith, length-plain o w s)),
-        sound-put s k h x lx g (bytes-sheet w (num r) (rev r) t bw bt) (sound-sheet w (num r) (rev r) t bw bt ht hn hv u (omega (arith, f)) (omega (arith, b))),
+        put-plain o w s k (rekeyed o w s k) (c .within) (c .whole)
+            ∙ ap (set (plain o w s) k) (place-sheet w (num r) (rev r) t bw (c .bytes) (c .fits) hn hv o (c .used) ∙ sym (held o w s keys bo bw g k (c .within) (c .used)))
+            ∙ set-same (plain o w s) k (omega (arith, length-plain o w s, c .within)),
+        sound-put s k (c .within) (rekeyed o w s k) (c .whole) g (bytes-sheet w (num r) (rev r) t bw (c .bytes))
+            (sound-sheet w (num r) (rev r) t bw (c .bytes) (c .fits) hn hv (c .used) (omega (arith, f)) (c .long)),
       )
 
   pub effect-step : (p : Plan) → (plain o w (stepStore o w s p) ≡ plain o w s) × SoundStore (stepStore o w s p)

@@ -3,23 +3,22 @@
 use mathlib.Core.Path.{_≡_, refl, sym, ap, ap₂, _∙_, subst}
 use mathlib.Core.Bool.{Bool, true, false, cond, not, _||_}
 use mathlib.Core.List.{List}
-use Prim.Native.Nat.{ℕ, _+_, _*_, _/_, _%_, _≤_, _<_}
+use Prim.Native.Nat.{ℕ, _/_, _%_, _≤_, _<_}
 use native.Mathlib.Omega.{arith}
 use borrow.Author.Tests.{eqb-true, eqb-false, ne-eqb}
-use lib.Dec.{eqb, ltb, lit<}
-use lib.ListN.{length, replicate, length-replicate}
+use lib.Dec.{eqb, ltb}
+use lib.ListN.{length, length-replicate}
 use Rattle.block.specs.Bytes.{Bytes}
 use Rattle.block.proofs.RowLaws.{length-putRow, row-put, bytes-putRow}
-use Rattle.block.proofs.BytesLaws.{bytes-zeros}
 use Rattle.eme2.specs.Transform.{afterwards}
-use Rattle.slots.specs.Record.{num, rev, mark, sound, allZero, lead}
+use Rattle.slots.specs.Record.{num, rev, mark, sound, lead}
 use Rattle.slots.specs.Text.{textOf, sheet}
 use Rattle.slots.specs.Slots.{slots, slot, put, emptied}
 use Rattle.slots.proofs.FieldLaws.{sound-free}
-use Rattle.slots.proofs.RecordLaws.{num-record, rev-record, sound-record, sheet-text, bytes-sheet, allZero-zeros}
+use Rattle.slots.proofs.RecordLaws.{num-record, rev-record, mark-record, sound-record, sheet-text, allZero-zeros}
 use Rattle.store.specs.Plans.{badSize}
-use Rattle.store.proofs.RoundTrip.{length-sheet, kept}
-use Rattle.claims.specs.Plain.{Place, nothing, holding}
+use Rattle.store.proofs.RoundTrip.{kept}
+use Rattle.claims.specs.Plain.{nothing, holding}
 use Rattle.claims.specs.View.{placeOf}
 use Rattle.claims.proofs.ViewLaws.{slot-other}
 use Rattle.claims.proofs.Simulation.{SoundStore}
@@ -41,6 +40,10 @@ pub length-emptied : length emptied ≡ 2112
 length-emptied = length-replicate {A = ℕ} 2112 0
 
 -- ---- a slot that becomes a sheet
+
+pub mark-sheet : (w : List ℕ) (n v : ℕ) (t : List ℕ) → mark (sheet w n v t) ≡ 2
+unfolding sheet
+mark-sheet w n v t = mark-record n v 2 (afterwards false w (lead n v 2 (length t)) t)
 
 module _ (w : List ℕ) (n v : ℕ) (t : List ℕ) (bw : Bytes w) (bt : Bytes t) (ht : length t ≤ 2096) (hn : n < 4294967296) where
   pub num-sheet : num (sheet w n v t) ≡ n

@@ -1,41 +1,52 @@
--- Demand 3, second part: once a copy begun at slot 0 has made as many steps as there are slots, whatever came between, no sheet is marked clear
--- or old key; and since this holds of every longer list of events too, none ever is again.
+-- Demand 3, second part: the last-slot claim, of 01's step.
 -- Assumes nothing.
-use mathlib.Core.Path.{_≡_, refl, sym, ap, ap₂, _∙_, subst}
-use mathlib.Core.Bool.{Bool, true, false, cond, not, _||_}
-use mathlib.Core.List.{List, [], _∷_}
-use Prim.Native.Nat.{ℕ, zero, suc, _+_, _≤_, _<_}
+use mathlib.Core.Path.{_≡_, refl, sym, ap, _∙_, subst}
+use mathlib.Core.Bool.{Bool, true, false, cond, not, _&&_, _||_}
+use mathlib.Core.List.{List, [], _∷_, _++_}
+use Prim.Native.Nat.{ℕ, suc, _+_, _≤_, _<_}
 use native.Mathlib.Omega.{arith}
 use borrow.Author.Tests.{eqb-true, eqb-false, eq-eqb, leb-true, leb-false}
 use lib.Dec.{eqb, leb}
 use lib.ListN.{length}
 use Rattle.block.specs.Bytes.{Bytes}
-use Rattle.block.proofs.RowLaws.{bytes-row}
-use Rattle.eme2.specs.Transform.{afterwards}
-use Rattle.slots.specs.Record.{num, rev, mark, len, sound, lead}
+use Rattle.slots.specs.Record.{num, rev, mark, sound}
 use Rattle.slots.specs.Text.{textOf, sheet}
 use Rattle.slots.specs.Slots.{slots, slot, put, emptied}
-use Rattle.slots.proofs.FieldLaws.{sound-len}
-use Rattle.slots.proofs.FindLaws.{length-slot}
-use Rattle.slots.proofs.RecordLaws.{mark-record}
-use Rattle.slots.proofs.TextLaws.{length-textOf}
 use Rattle.store.specs.declared.Plan.{Plan}
 use Rattle.store.specs.declared.Plan.the-variants.{Refuse, At}
 use Rattle.store.specs.declared.Outcome.{Outcome}
 use Rattle.store.specs.declared.Outcome.the-variants.{Done, Free, Damaged, Already, Converted}
-use Rattle.store.specs.declared.Stepped.the-variants.{Went}
 use Rattle.store.specs.Plans.{badKeys, badSize, addPlan, revisePlan, removePlan, stepPlan}
-use Rattle.store.specs.Calls.{addStore, reviseStore, removeStore, recordOutcome, outcomeAt, movedFrom, convertedAt, stepAnswer, stepStore}
+use Rattle.store.specs.Calls.{marked, addStore, reviseStore, removeStore, recordOutcome, outcomeAt, movedFrom, convertedAt, stepAnswer, stepStore}
 use Rattle.store.proofs.PlanLaws.{no, remove-at}
 use Rattle.store.proofs.RoundTrip.{length-sheet}
-use Rattle.claims.specs.Machine.{Event, reading, adding, revising, removing, stepping, Allowed, AllAllowed, State, moved, next, final}
-use Rattle.claims.specs.Rekeying.{ready, stepsOf}
+use Rattle.claims.specs.Machine.{Event, reading, adding, revising, removing, stepping, AllAllowed, State, storeStep, placeAfter, moved, next, final}
+use Rattle.claims.specs.Claims.{NoneLeft, stepsOf, LastSlotClaim}
 use Rattle.claims.proofs.ViewLaws.{slot-other}
 use Rattle.claims.proofs.Simulation.{SoundStore}
-use Rattle.claims.proofs.Keeping.{length-emptied, slots-put, slot-put}
-use Rattle.claims.proofs.Effects.{add-says, revise-says, converts, bytes-textOf}
-use Rattle.claims.proofs.Traces.{one-next}
-use Rattle.claims.proofs.Checking.{Passes, passes-sound}
+use Rattle.claims.proofs.Keeping.{length-emptied, mark-sheet, slots-put, slot-put}
+use Rattle.claims.proofs.Effects.{add-says, revise-says, rekeyed, convert-says}
+use Rattle.claims.proofs.Traces.{one-next, same-list, slots-stay}
+use Rattle.claims.proofs.Joining.{final-join, allowed-left, allowed-right}
+use Rattle.claims.proofs.Checking.{passes-sound}
+
+-- the slot is free, or marked new key
+abbrev ready : List ℕ → Bool
+ready r = eqb (num r) 0 || eqb (mark r) 2
+
+-- so it is marked neither clear nor old key
+ready-unmarked : (r : List ℕ) (m : ℕ) → m < 2 → ready r ≡ true → marked m r ≡ false
+ready-unmarked r m h e = by-tests (eqb (num r) 0) (eqb (mark r) 2) (eqb (mark r) m) refl refl e
+  where
+    by-tests : (a b c : Bool) → eqb (mark r) 2 ≡ b → eqb (mark r) m ≡ c → a || b ≡ true → not a && c ≡ false
+    by-tests true b c p q x = refl
+    by-tests false true true p q x =
+        let d : mark r ≡ 2 = eqb-true (mark r) 2 p in
+        let f : mark r ≡ m = eqb-true (mark r) m q in
+        let y : ⊥ = omega arith in
+        absurd y
+    by-tests false true false p q x = refl
+    by-tests false false c p q x = let z : _≡_ {A = ℕ} 0 1 = ap (λ (t : Bool). cond t 1 0) x in let y : ⊥ = omega arith in absurd y
 
 -- every slot below p is free or under the new key
 abbrev Behind : ℕ → List ℕ → Type 0
@@ -50,10 +61,8 @@ unfolding num
 ready-emptied = refl
 
 ready-sheet : (w : List ℕ) (n v : ℕ) (t : List ℕ) → ready (sheet w n v t) ≡ true
-unfolding sheet
 ready-sheet w n v t =
-    let x : List ℕ = afterwards false w (lead n v 2 (length t)) t in
-    ap (λ (b : Bool). eqb (num (sheet w n v t)) 0 || b) (eq-eqb (mark (sheet w n v t)) 2 (mark-record n v 2 x)) ∙ or-true (eqb (num (sheet w n v t)) 0)
+    ap (λ (b : Bool). eqb (num (sheet w n v t)) 0 || b) (eq-eqb (mark (sheet w n v t)) 2 (mark-sheet w n v t)) ∙ or-true (eqb (num (sheet w n v t)) 0)
 
 -- a slot written so that it is ready
 module _ (s : List ℕ) (k : ℕ) (h : k < slots s) (x : List ℕ) (l : length x ≡ 2112) (r : ready x ≡ true) where
@@ -110,21 +119,12 @@ module _ (o w s : List ℕ) (bo : Bytes o) (bw : Bytes w) (g : SoundStore s) whe
   undamaged : (k : ℕ) → Says s k Damaged → ⊥
   undamaged k c = let z : _≡_ {A = ℕ} 1 0 = ap (λ (t : Bool). cond t 1 0) (sym (g .each k (c .0)) ∙ c .1) in let y : ⊥ = omega arith in y
 
-  whole-sheet : (k : ℕ) → outcomeAt s k ≡ Converted → length (sheet w (num (slot s k)) (rev (slot s k)) (textOf o w (slot s k))) ≡ 2112
-  whole-sheet k e =
-      let c = converts s k e in
-      let r : List ℕ = slot s k in
-      let br : Bytes r = bytes-row 2112 s k (g .bytes) in
-      let b = sound-len r (g .each k (c .0)) (c .1) in
-      let lt : length (textOf o w r) ≡ len r = length-textOf r o w bo bw br (omega (arith, b, length-slot s k (c .0))) in
-      length-sheet w (num r) (rev r) (textOf o w r) bw (bytes-textOf o w r bo bw br) (omega (arith, b))
-
   slots-converted : (k : ℕ) (x : Outcome) → outcomeAt s k ≡ x → slots (convertedAt o w s k x) ≡ slots s
   slots-converted k Done e = refl
   slots-converted k Free e = refl
   slots-converted k Damaged e = refl
   slots-converted k Already e = refl
-  slots-converted k Converted e = slots-put s k (converts s k e .0) (sheet w (num (slot s k)) (rev (slot s k)) (textOf o w (slot s k))) (whole-sheet k e)
+  slots-converted k Converted e = let c = convert-says o w s k bo bw (g .bytes) e in slots-put s k (c .within) (rekeyed o w s k) (c .whole)
 
   behind-others : (p k : ℕ) (x : Outcome) → outcomeAt s k ≡ x → Behind p s → Behind p (convertedAt o w s k x)
   behind-others p k Done e b = b
@@ -132,8 +132,8 @@ module _ (o w s : List ℕ) (bo : Bytes o) (bw : Bytes w) (g : SoundStore s) whe
   behind-others p k Damaged e b = b
   behind-others p k Already e b = b
   behind-others p k Converted e b =
-      behind-put s k (converts s k e .0) (sheet w (num (slot s k)) (rev (slot s k)) (textOf o w (slot s k))) (whole-sheet k e)
-      (ready-sheet w (num (slot s k)) (rev (slot s k)) (textOf o w (slot s k))) p b
+      let c = convert-says o w s k bo bw (g .bytes) e in
+      behind-put s k (c .within) (rekeyed o w s k) (c .whole) (ready-sheet w (num (slot s k)) (rev (slot s k)) (textOf o w (slot s k))) p b
 
   behind-own : (k : ℕ) (x : Outcome) → outcomeAt s k ≡ x → Behind k s → Behind (movedFrom k x) (convertedAt o w s k x)
   behind-own k Done e b = b
@@ -141,8 +141,8 @@ module _ (o w s : List ℕ) (bo : Bytes o) (bw : Bytes w) (g : SoundStore s) whe
   behind-own k Damaged e b = absurd (undamaged k (subst (Says s k) e (says s k)))
   behind-own k Already e b = behind-next s k (subst (Says s k) e (says s k) .1) b
   behind-own k Converted e b =
-      behind-more s k (converts s k e .0) (sheet w (num (slot s k)) (rev (slot s k)) (textOf o w (slot s k))) (whole-sheet k e)
-      (ready-sheet w (num (slot s k)) (rev (slot s k)) (textOf o w (slot s k))) b
+      let c = convert-says o w s k bo bw (g .bytes) e in
+      behind-more s k (c .within) (rekeyed o w s k) (c .whole) (ready-sheet w (num (slot s k)) (rev (slot s k)) (textOf o w (slot s k))) b
 
   further : (n k : ℕ) (x : Outcome) → outcomeAt s k ≡ x → (k < slots s → n ≤ k) → movedFrom k x < slots s → suc n ≤ movedFrom k x
   further n k Done e f h = let d : slots s ≤ k = subst (Says s k) e (says s k) in let z : ⊥ = omega arith in absurd z
@@ -152,7 +152,7 @@ module _ (o w s : List ℕ) (bo : Bytes o) (bw : Bytes w) (g : SoundStore s) whe
   further n k Converted e f h = let d : n ≤ k = f (subst (Says s k) e (says s k)) in omega arith
 
 -- with keys and a store of allowed sizes a step is never refused
-step-taken : (o w s : List ℕ) (k : ℕ) → badKeys o w ≡ false → badSize s ≡ false → stepPlan o w s k ≡ At k
+pub step-taken : (o w s : List ℕ) (k : ℕ) → badKeys o w ≡ false → badSize s ≡ false → stepPlan o w s k ≡ At k
 unfolding stepPlan
 step-taken o w s k a b = no _ _ _ a ∙ no _ _ _ b
 
@@ -188,7 +188,7 @@ module _ (o w : List ℕ) (keys : badKeys o w ≡ false) (bo : Bytes o) (bw : By
   by-a-step : (st : State) → SoundStore (st .store) → (n d : ℕ) → Reached n (st .place c) (st .store)
       → Reached (cond (eqb c d) (suc n) n) (next o w (stepping d) st .place c) (next o w (stepping d) st .store)
   by-a-step st g n d r =
-      subst (λ (q : Plan). Reached (cond (eqb c d) (suc n) n) (moved d (stepAnswer s q) (st .place) c) (stepStore o w s q)) (sym plan) (by-copy (eqb c d) refl)
+      subst (λ (q : Plan). Reached (cond (eqb c d) (suc n) n) (moved d (placeAfter k (stepAnswer s q)) (st .place) c) (stepStore o w s q)) (sym plan) (by-copy (eqb c d) refl)
     where
       s : List ℕ
       s = st .store
@@ -233,11 +233,35 @@ module _ (o w : List ℕ) (keys : badKeys o w ≡ false) (bo : Bytes o) (bw : By
       sum true = omega arith
       sum false = refl
 
-  -- its steps are counted, and not its place
-  pub no-sheet-left : (st : State) → Bytes (st .store) → Passes (st .store) → st .place c ≡ 0 → (es : List Event) → AllAllowed es
-      → slots (final o w es st .store) ≤ stepsOf c es
-      → (k : ℕ) → k < slots (final o w es st .store) → ready (slot (final o w es st .store) k) ≡ true
-  no-sheet-left st bs ok z es a h k hk =
-      let q = reached es st a (passes-sound (st .store) bs ok) 0 ((λ j x y. let v : ⊥ = omega arith in absurd v), λ x. omega arith) in
-      let f : final o w es st .place c < slots (final o w es st .store) → ⊥ = λ x. let y : 0 + stepsOf c es ≤ final o w es st .place c = q .1 x in let v : ⊥ = omega arith in v in
-      q .0 k (omega (arith, f)) hk
+one-more : (t : Bool) (m n : ℕ) → m ≤ n → cond t (suc m) m ≤ cond t (suc n) n
+one-more true m n h = omega arith
+one-more false m n h = h
+
+steps-more : (c : ℕ) (es later : List Event) → stepsOf c es ≤ stepsOf c (es ++ later)
+steps-more c [] later = omega arith
+steps-more c (reading n b ∷ es) later = steps-more c es later
+steps-more c (adding n t ∷ es) later = steps-more c es later
+steps-more c (revising n v t ∷ es) later = steps-more c es later
+steps-more c (removing n ∷ es) later = steps-more c es later
+steps-more c (stepping d ∷ es) later = one-more (eqb c d) (stepsOf c es) (stepsOf c (es ++ later)) (steps-more c es later)
+
+-- a copy at place 0 that makes as many steps as there are slots
+none-left : (o w : List ℕ) → badKeys o w ≡ false → Bytes o → Bytes w → (c : ℕ) (st : State) → SoundStore (st .store) → st .place c ≡ 0
+    → (es : List Event) → AllAllowed es → slots (st .store) ≤ stepsOf c es → NoneLeft (final o w es st .store)
+none-left o w keys bo bw c st g z es a h k hk =
+    let q = reached o w keys bo bw c es st a g 0 ((λ j x y. let v : ⊥ = omega arith in absurd v), λ x. omega arith) in
+    let n : slots (final o w es st .store) ≡ slots (st .store) = slots-stay o w keys bo bw es st a g in
+    let f : final o w es st .place c < slots (final o w es st .store) → ⊥ = λ x. let y : 0 + stepsOf c es ≤ final o w es st .place c = q .1 x in let v : ⊥ = omega arith in v in
+    let r : ready (slot (final o w es st .store) k) ≡ true = q .0 k (omega (arith, f)) hk in
+    (ready-unmarked (slot (final o w es st .store) k) 0 (omega arith) r, ready-unmarked (slot (final o w es st .store) k) 1 (omega arith) r)
+
+pub last-slot : (o w : List ℕ) → badKeys o w ≡ false → Bytes o → Bytes w → LastSlotClaim o w (storeStep o w)
+last-slot o w keys bo bw st bs ok before since later h c z n =
+    let g : SoundStore (st .store) = passes-sound (st .store) bs ok in
+    let hb : AllAllowed before = allowed-left before (since ++ later) h in
+    let ha : AllAllowed (since ++ later) = allowed-right before (since ++ later) h in
+    let st1 : State = final o w before st in
+    let same : slots (st1 .store) ≡ slots (st .store) = slots-stay o w keys bo bw before st hb g in
+    let m : slots (st1 .store) ≤ stepsOf c (since ++ later) = omega (arith, steps-more c since later) in
+    subst (λ (x : State). NoneLeft (x .store)) (sym (final-join o w (storeStep o w) before (since ++ later) st))
+    (none-left o w keys bo bw c st1 (same-list o w keys bo bw before st hb g .1) z (since ++ later) ha m)

@@ -4,8 +4,10 @@ pub mod Simulation
 pub mod Keeping
 pub mod Effects
 pub mod Traces
+pub mod Joining
 pub mod Checking
 pub mod StaysChecked
-pub mod PlainList
 pub mod LastSlot
 pub mod OneOfTwo
+pub mod Idle
+pub mod Demand3

@@ -1,38 +1,38 @@
 -- Demand 3, third part: of two revisions that name one sheet at one revision at most one is accepted, if no accepted removal of that sheet
 -- stands between them, whatever else does.
 -- Assumes nothing.
-use mathlib.Core.Path.{_≡_, refl, sym, ap, ap₂, _∙_, subst}
+use mathlib.Core.Path.{_≡_, refl, sym, ap, _∙_, subst}
 use mathlib.Core.Bool.{Bool, true, false}
 use mathlib.Core.List.{List, [], _∷_}
-use Prim.Native.Nat.{ℕ, _+_, _≤_, _<_}
+use Prim.Native.Nat.{ℕ, zero, suc, _+_, _≤_, _<_}
 use native.Mathlib.Omega.{arith}
-use borrow.Author.Tests.{eqb-true, eqb-false, eq-eqb, ne-eqb}
+use borrow.Author.Tests.{eqb-true, eqb-false, ne-eqb}
 use lib.Dec.{eqb}
 use lib.ListN.{length}
 use Rattle.block.specs.Bytes.{Bytes}
 use Rattle.block.proofs.RowLaws.{bytes-row}
-use Rattle.slots.specs.Record.{num, rev, len, sound}
-use Rattle.slots.specs.Text.{textOf, sheet}
+use Rattle.slots.specs.Record.{num, rev}
+use Rattle.slots.specs.Text.{sheet}
 use Rattle.slots.specs.Slots.{slots, slot, put, emptied, scan, find}
-use Rattle.slots.proofs.FieldLaws.{sound-len, num-bound, rev-bound}
-use Rattle.slots.proofs.FindLaws.{hasNum, find-has, find-le, length-slot}
-use Rattle.slots.proofs.TextLaws.{length-textOf}
+use Rattle.slots.proofs.FieldLaws.{rev-bound}
+use Rattle.slots.proofs.FindLaws.{hasNum, find-has}
 use Rattle.store.specs.declared.Plan.{Plan}
 use Rattle.store.specs.declared.Plan.the-variants.{Refuse, At}
 use Rattle.store.specs.declared.Outcome.{Outcome}
 use Rattle.store.specs.declared.Outcome.the-variants.{Done, Free, Damaged, Already, Converted}
+use Rattle.store.specs.declared.Stored.the-variants.{Refused, Revision}
 use Rattle.store.specs.declared.Removed.the-variants as removed
 use Rattle.store.specs.Plans.{badKeys, addPlan, revisePlan, removePlan, stepPlan}
-use Rattle.store.specs.Calls.{addStore, reviseStore, removeAnswer, removeStore, outcomeAt, convertedAt, stepStore}
+use Rattle.store.specs.Calls.{addStore, reviseAnswer, reviseStore, removeAnswer, removeStore, outcomeAt, convertedAt, stepStore}
 use Rattle.store.proofs.PlanLaws.{passed, slotOf, there, remove-at}
 use Rattle.store.proofs.RoundTrip.{length-sheet}
-use Rattle.claims.specs.Machine.{Event, reading, adding, revising, removing, stepping, Allowed, AllAllowed, State, next, final}
+use Rattle.claims.specs.Machine.{Event, reading, adding, revising, removing, stepping, Allowed, AllAllowed, Answer, ofRead, ofStored, ofRemoved, ofStep, State, answer, next, answers}
+use Rattle.claims.specs.Claims.{eventAt, answerAt, RemovedAt}
 use Rattle.claims.proofs.ViewLaws.{scan-same, slot-other}
 use Rattle.claims.proofs.Simulation.{SoundStore}
 use Rattle.claims.proofs.Keeping.{num-emptied, length-emptied, num-sheet, rev-sheet, slots-put, slot-put}
-use Rattle.claims.proofs.Effects.{add-says, revise-says, converts, bytes-textOf}
+use Rattle.claims.proofs.Effects.{add-says, revise-says, rekeyed, convert-says}
 use Rattle.claims.proofs.Traces.{one-next}
-use Rattle.claims.proofs.Checking.{Passes, passes-sound}
 
 -- sheet n is in the store, at a revision above v
 abbrev Above : ℕ → ℕ → List ℕ → Type 0
@@ -69,19 +69,6 @@ module _ (s : List ℕ) (k : ℕ) (h : k < slots s) (x : List ℕ) (l : length x
       by-slot false e =
           let y : rev (slot (put s k x) (find s n)) ≡ rev (slot s (find s n)) = ap rev (slot-other s k h x l (find s n) (eqb-false (find s n) k e)) in
           omega (arith, a .1)
-
--- ---- no accepted removal of sheet n
-
-abbrev pub NotRemoved : ℕ → Event → State → Type 0
-NotRemoved n (reading i b) st = Unit {0}
-NotRemoved n (adding i t) st = Unit {0}
-NotRemoved n (revising i v t) st = Unit {0}
-NotRemoved n (removing i) st = i ≡ n → removeAnswer (removePlan (st .store) i) ≡ removed.Done → ⊥
-NotRemoved n (stepping c) st = Unit {0}
-
-abbrev pub Unremoved : List ℕ → List ℕ → ℕ → List Event → State → Type 0
-Unremoved o w n [] st = Unit {0}
-Unremoved o w n (e ∷ es) st = NotRemoved n e st × Unremoved o w n es (next o w e st)
 
 -- the slot that a removal empties has the number named
 removed-number : (s : List ℕ) (n k : ℕ) → removePlan s n ≡ At k → num (slot s k) ≡ n
@@ -133,60 +120,96 @@ module _ (o w : List ℕ) (keys : badKeys o w ≡ false) (bo : Bytes o) (bw : By
     above-converted k Damaged e = a
     above-converted k Already e = a
     above-converted k Converted e =
-        let c = converts s k e in
-        let r : List ℕ = slot s k in
-        let br : Bytes r = bytes-row 2112 s k (g .bytes) in
-        let b = sound-len r (g .each k (c .0)) (c .1) in
-        let t : List ℕ = textOf o w r in
-        let bt : Bytes t = bytes-textOf o w r bo bw br in
-        let lt : length t ≡ len r = length-textOf r o w bo bw br (omega (arith, b, length-slot s k (c .0))) in
-        let ht : length t ≤ 2096 = omega (arith, b) in
-        let x : List ℕ = sheet w (num r) (rev r) t in
-        let d : num x ≡ num r = num-sheet w (num r) (rev r) t bw bt ht (num-bound r br) in
-        let y : rev x ≡ rev r = rev-sheet w (num r) (rev r) t bw bt ht (num-bound r br) (rev-bound r br) in
-        above-put s k (c .0) x (length-sheet w (num r) (rev r) t bw bt ht) n (ap (λ (j : ℕ). eqb j n) d) v (λ q. omega arith) a
+        let c = convert-says o w s k bo bw (g .bytes) e in
+        above-put s k (c .within) (rekeyed o w s k) (c .whole) n (ap (λ (j : ℕ). eqb j n) (c .number)) v (λ q. omega (arith, c .revision)) a
 
     above-step : (p : Plan) → Above n v (stepStore o w s p)
     above-step (Refuse x) = a
     above-step (At k) = above-converted k (outcomeAt s k) refl
 
-  stays-above : (es : List Event) (st : State) → AllAllowed es → SoundStore (st .store) → Unremoved o w n es st → Above n v (st .store)
-      → Above n v (final o w es st .store)
-  stays-above [] st h g u a = a
-  stays-above (e ∷ es) st h g u a =
-      stays-above es (next o w e st) (h .1) (one-next o w keys bo bw e st (h .0) g .1) (u .1) (one e (h .0) (u .0))
-    where
-      one : (e : Event) → Allowed e → NotRemoved n e st → Above n v (next o w e st .store)
-      one (reading i b) k x = a
-      one (adding i t) k x = above-add (st .store) g a i t (k .0) (k .1) (addPlan o w (st .store) i t) refl
-      one (revising i m t) k x = above-revise (st .store) g a i m t (k .0) (k .2) (revisePlan o w (st .store) i m t) refl
-      one (removing i) k x = above-remove (st .store) g a i (removePlan (st .store) i) refl x
-      one (stepping c) k x = above-step (st .store) g a (stepPlan o w (st .store) (st .place c))
+  -- whatever comes next, but for an accepted removal of the sheet
+  above-next : (e : Event) (st : State) → Allowed e → SoundStore (st .store) → (e ≡ removing n → answer o w e st ≡ ofRemoved removed.Done → ⊥)
+      → Above n v (st .store) → Above n v (next o w e st .store)
+  above-next (reading i b) st h g u a = a
+  above-next (adding i t) st h g u a = above-add (st .store) g a i t (h .0) (h .1) (addPlan o w (st .store) i t) refl
+  above-next (revising i m t) st h g u a = above-revise (st .store) g a i m t (h .0) (h .2) (revisePlan o w (st .store) i m t) refl
+  above-next (removing i) st h g u a =
+      above-remove (st .store) g a i (removePlan (st .store) i) refl (λ q d. u (ap removing q) (ap ofRemoved d))
+  above-next (stepping c) st h g u a = above-step (st .store) g a (stepPlan o w (st .store) (st .place c))
 
--- a revision accepted; then any events without an accepted removal of the sheet; then no revision that names the same is accepted
-pub at-most-one : (o w : List ℕ) → badKeys o w ≡ false → Bytes o → Bytes w → (st : State) → Bytes (st .store) → Passes (st .store)
-    → (n v : ℕ) (t : List ℕ) → Allowed (revising n v t) → (k : ℕ) → revisePlan o w (st .store) n v t ≡ At k
-    → (es : List Event) → AllAllowed es → Unremoved o w n es (next o w (revising n v t) st)
-    → (t′ : List ℕ) (k′ : ℕ) → revisePlan o w (final o w es (next o w (revising n v t) st) .store) n v t′ ≡ At k′ → ⊥
-at-most-one o w keys bo bw st bs ok n v t h k e es hs u t′ k′ e′ =
-    let s : List ℕ = st .store in
-    let g : SoundStore s = passes-sound s bs ok in
-    let c = revise-says o w s n v t k e in
-    let st1 : State = next o w (revising n v t) st in
-    let g1 : SoundStore (st1 .store) = one-next o w keys bo bw (revising n v t) st h g .1 in
-    let r : List ℕ = slot s k in
-    let hv : rev r + 1 < 65536 = omega (arith, rev-bound r (bytes-row 2112 s k (g .bytes)), c .below) in
-    let x : List ℕ = sheet w n (rev r + 1) t in
-    let lx : length x ≡ 2112 = length-sheet w n (rev r + 1) t bw (h .2) (c .fits) in
-    let d : num x ≡ num r = num-sheet w n (rev r + 1) t bw (h .2) (c .fits) (h .0) ∙ sym (c .number) in
-    let y : rev x ≡ rev r + 1 = rev-sheet w n (rev r + 1) t bw (h .2) (c .fits) (h .0) hv in
-    let f : find (put s k x) n ≡ k = find-same s k (c .within) x lx n (ap (λ (j : ℕ). eqb j n) d) ∙ c .place in
-    let i : rev (slot (put s k x) (find (put s k x) n)) ≡ rev x = ap (λ (j : ℕ). rev (slot (put s k x) j)) f ∙ ap rev (slot-put s k (c .within) x lx) in
-    let a : Above n v (put s k x) = (omega (arith, c .within, slots-put s k (c .within) x lx), omega (arith, c .seen)) in
-    let a1 : Above n v (st1 .store) = subst (λ (p : Plan). Above n v (reviseStore w s n t p)) (sym e) a in
-    let b = stays-above o w keys bo bw n v (c .some) es st1 hs g1 u a1 in
-    let s2 : List ℕ = final o w es st1 .store in
-    let c2 = revise-says o w s2 n v t′ k′ e′ in
-    let m : rev (slot s2 (find s2 n)) ≡ rev (slot s2 k′) = ap (λ (j : ℕ). rev (slot s2 j)) (c2 .place) in
-    let q : ⊥ = omega (arith, b .1, c2 .seen) in
-    q
+-- ---- answers
+
+abbrev stored-kind : Answer → ℕ
+stored-kind (ofRead x b) = 0
+stored-kind (ofStored (Refused x)) = 0
+stored-kind (ofStored (Revision r)) = 1
+stored-kind (ofRemoved x) = 0
+stored-kind ofStep = 0
+
+abbrev revising-kind : Event → ℕ
+revising-kind (reading n b) = 0
+revising-kind (adding n t) = 0
+revising-kind (revising n v t) = 1
+revising-kind (removing n) = 0
+revising-kind (stepping c) = 0
+
+no-event : (n v : ℕ) (t : List ℕ) → stepping 0 ≡ revising n v t → ⊥
+no-event n v t e = let z : _≡_ {A = ℕ} 0 1 = ap revising-kind e in let y : ⊥ = omega arith in y
+
+module _ (o w : List ℕ) (keys : badKeys o w ≡ false) (bo : Bytes o) (bw : Bytes w) (n v : ℕ) where
+  -- an accepted revision names the revision stored
+  accepted-says : (s t : List ℕ) (r : ℕ) (p : Plan) → revisePlan o w s n v t ≡ p → ofStored (reviseAnswer s p) ≡ ofStored (Revision r)
+      → (find s n < slots s) × (n ≡ 0 → ⊥) × (v ≡ rev (slot s (find s n)))
+  accepted-says s t r (Refuse x) e q = let z : _≡_ {A = ℕ} 0 1 = ap stored-kind q in let y : ⊥ = omega arith in absurd y
+  accepted-says s t r (At k) e q =
+      let c = revise-says o w s n v t k e in
+      (omega (arith, c .within, c .place), c .some, c .seen ∙ ap (λ (j : ℕ). rev (slot s j)) (sym (c .place)))
+
+  -- and leaves a higher one
+  above-accepted : (s t : List ℕ) → SoundStore s → n < 4294967296 → Bytes t → (r : ℕ) (p : Plan) → revisePlan o w s n v t ≡ p
+      → ofStored (reviseAnswer s p) ≡ ofStored (Revision r) → Above n v (reviseStore w s n t p)
+  above-accepted s t g hn bt r (Refuse x) e q = let z : _≡_ {A = ℕ} 0 1 = ap stored-kind q in let y : ⊥ = omega arith in absurd y
+  above-accepted s t g hn bt r (At k) e q =
+      let c = revise-says o w s n v t k e in
+      let x : List ℕ = sheet w n (rev (slot s k) + 1) t in
+      let hv : rev (slot s k) + 1 < 65536 = omega (arith, rev-bound (slot s k) (bytes-row 2112 s k (g .bytes)), c .below) in
+      let lx : length x ≡ 2112 = length-sheet w n (rev (slot s k) + 1) t bw bt (c .fits) in
+      let d : num x ≡ num (slot s k) = num-sheet w n (rev (slot s k) + 1) t bw bt (c .fits) hn ∙ sym (c .number) in
+      let y : rev x ≡ rev (slot s k) + 1 = rev-sheet w n (rev (slot s k) + 1) t bw bt (c .fits) hn hv in
+      let f : find (put s k x) n ≡ k = find-same s k (c .within) x lx n (ap (λ (j : ℕ). eqb j n) d) ∙ c .place in
+      let i : rev (slot (put s k x) (find (put s k x) n)) ≡ rev x = ap (λ (j : ℕ). rev (slot (put s k x) j)) f ∙ ap rev (slot-put s k (c .within) x lx) in
+      (omega (arith, c .within, slots-put s k (c .within) x lx), omega (arith, c .seen))
+
+  -- ---- along the events, by position
+
+  none-later : (n ≡ 0 → ⊥) → (es : List Event) (st : State) → AllAllowed es → SoundStore (st .store) → Above n v (st .store)
+      → (j : ℕ) (t : List ℕ) → eventAt es j ≡ revising n v t → ((k : ℕ) → k < j → RemovedAt o w es st n k → ⊥)
+      → (r : ℕ) → answerAt (answers o w es st) j ≡ ofStored (Revision r) → ⊥
+  none-later z [] st h g a j t e u r q = no-event n v t e
+  none-later z (x ∷ es) st h g a zero t e u r q =
+      let s : List ℕ = st .store in
+      let c = accepted-says s t r (revisePlan o w s n v t) refl (sym (ap (λ (y : Event). answer o w y st) e) ∙ q) in
+      let y : ⊥ = omega (arith, a .1, c .2) in
+      y
+  none-later z (x ∷ es) st h g a (suc j) t e u r q =
+      none-later z es (next o w x st) (h .1) (one-next o w keys bo bw x st (h .0) g .1)
+      (above-next o w keys bo bw n v z x st (h .0) g (λ c d. u 0 (omega arith) (c, d)) a) j t e (λ k hk. u (suc k) (omega arith)) r q
+
+  pub one-of-two : (es : List Event) (st : State) → AllAllowed es → SoundStore (st .store) → (i j : ℕ) → i < j
+      → (t t′ : List ℕ) → eventAt es i ≡ revising n v t → eventAt es j ≡ revising n v t′
+      → ((k : ℕ) → i < k → k < j → RemovedAt o w es st n k → ⊥)
+      → (r r′ : ℕ) → answerAt (answers o w es st) i ≡ ofStored (Revision r) → answerAt (answers o w es st) j ≡ ofStored (Revision r′) → ⊥
+  one-of-two [] st h g i j l t t′ e e′ u r r′ q q′ = no-event n v t e
+  one-of-two (x ∷ es) st h g zero zero l t t′ e e′ u r r′ q q′ = let y : ⊥ = omega arith in y
+  one-of-two (x ∷ es) st h g (suc i) zero l t t′ e e′ u r r′ q q′ = let y : ⊥ = omega arith in y
+  one-of-two (x ∷ es) st h g zero (suc j) l t t′ e e′ u r r′ q q′ =
+      let s : List ℕ = st .store in
+      let hx : Allowed (revising n v t) = subst Allowed e (h .0) in
+      let p : answer o w (revising n v t) st ≡ ofStored (Revision r) = sym (ap (λ (y : Event). answer o w y st) e) ∙ q in
+      let c = accepted-says s t r (revisePlan o w s n v t) refl p in
+      let a : Above n v (next o w (revising n v t) st .store) = above-accepted s t g (hx .0) (hx .2) r (revisePlan o w s n v t) refl p in
+      none-later (c .1) es (next o w x st) (h .1) (one-next o w keys bo bw x st (h .0) g .1)
+      (subst (λ (y : Event). Above n v (next o w y st .store)) (sym e) a) j t′ e′ (λ k hk. u (suc k) (omega arith) (omega arith)) r′ q′
+  one-of-two (x ∷ es) st h g (suc i) (suc j) l t t′ e e′ u r r′ q q′ =
+      one-of-two es (next o w x st) (h .1) (one-next o w keys bo bw x st (h .0) g .1) i j (omega arith) t t′ e e′
+      (λ k hi hj. u (suc k) (omega arith) (omega arith)) r r′ q q′

@@ -4,7 +4,7 @@
 use mathlib.Core.Path.{_≡_, refl, sym, ap, ap₂, _∙_}
 use mathlib.Core.Bool.{Bool, true, false, cond, not}
 use mathlib.Core.List.{List}
-use Prim.Native.Nat.{ℕ, _≤_, _<_}
+use Prim.Native.Nat.{ℕ, _<_}
 use native.Mathlib.Omega.{arith}
 use borrow.Author.Tests.{eqb-false, ne-eqb}
 use lib.Dec.{eqb, ltb}
@@ -18,9 +18,9 @@ use Rattle.slots.proofs.FieldLaws.{sound-len}
 use Rattle.slots.proofs.FindLaws.{find-has, length-slot}
 use Rattle.slots.proofs.TextLaws.{length-textOf}
 use Rattle.store.specs.declared.Refusal.{Refusal}
-use Rattle.store.specs.declared.Refusal.the-variants.{SheetZero, TextLength, NoSheet, OtherRevision, LastRevision, NoRoom, SheetThere, BufferShort, LengthChanged}
+use Rattle.store.specs.declared.Refusal.the-variants.{SheetZero, TextLength, NoSheet, OtherRevision, LastRevision, NoRoom, SheetThere, BufferShort}
 use Rattle.store.specs.declared.Plan.{Plan}
-use Rattle.store.specs.declared.Plan.the-variants.{Refuse, At}
+use Rattle.store.specs.declared.Plan.the-variants.{At}
 use Rattle.store.specs.Plans.{guard, badKeys, badSize, badText, absent, readAtPlan, readPlan, addPlan, reviseAtPlan, revisePlan, removePlan}
 use Rattle.store.proofs.PlanLaws.{no, there, not-changed}
 use Rattle.claims.specs.Plain.{Place, nothing, holding, revisionOf, textIn, at, absentIn, findIn, readIn, addIn, reviseIn, removeIn}

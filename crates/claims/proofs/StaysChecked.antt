@@ -1,19 +1,15 @@
 -- No call makes a sheet number stand twice.
 -- Assumes nothing.
-use mathlib.Core.Path.{_≡_, refl, sym, ap, _∙_}
+use mathlib.Core.Path.{_≡_, refl, sym, _∙_}
 use mathlib.Core.Bool.{false}
 use mathlib.Core.List.{List, [], _∷_}
-use Prim.Native.Nat.{ℕ, _+_, _≤_, _<_}
+use Prim.Native.Nat.{ℕ, _+_, _<_}
 use native.Mathlib.Omega.{arith}
-use lib.ListN.{length}
 use Rattle.block.specs.Bytes.{Bytes}
-use Rattle.block.proofs.RowLaws.{bytes-row}
-use Rattle.slots.specs.Record.{num, rev, len, sound}
-use Rattle.slots.specs.Text.{textOf, sheet}
-use Rattle.slots.specs.Slots.{slots, slot, emptied, find}
-use Rattle.slots.proofs.FieldLaws.{sound-len, num-bound}
-use Rattle.slots.proofs.FindLaws.{find-lowest, length-slot}
-use Rattle.slots.proofs.TextLaws.{length-textOf}
+use Rattle.slots.specs.Record.{num, rev}
+use Rattle.slots.specs.Text.{sheet}
+use Rattle.slots.specs.Slots.{slot, emptied}
+use Rattle.slots.proofs.FindLaws.{find-lowest}
 use Rattle.store.specs.declared.Plan.{Plan}
 use Rattle.store.specs.declared.Plan.the-variants.{Refuse, At}
 use Rattle.store.specs.declared.Outcome.{Outcome}
@@ -22,10 +18,11 @@ use Rattle.store.specs.Plans.{badKeys, addPlan, revisePlan, removePlan, stepPla
 use Rattle.store.specs.Calls.{addStore, reviseStore, removeStore, outcomeAt, convertedAt, stepStore}
 use Rattle.store.proofs.PlanLaws.{remove-at}
 use Rattle.store.proofs.RoundTrip.{length-sheet}
-use Rattle.claims.specs.Machine.{Event, reading, adding, revising, removing, stepping, Allowed, State, next}
+use Rattle.claims.specs.Machine.{Event, reading, adding, revising, removing, stepping, Allowed, AllAllowed, State, next, final}
 use Rattle.claims.proofs.Simulation.{SoundStore}
 use Rattle.claims.proofs.Keeping.{num-emptied, length-emptied, num-sheet}
-use Rattle.claims.proofs.Effects.{add-says, revise-says, converts, bytes-textOf}
+use Rattle.claims.proofs.Effects.{add-says, revise-says, rekeyed, convert-says}
+use Rattle.claims.proofs.Traces.{one-next}
 use Rattle.claims.proofs.Checking.{Apart, apart-put}
 
 module _ (o w : List ℕ) (bo : Bytes o) (bw : Bytes w) (s : List ℕ) (g : SoundStore s) (a : Apart s) where
@@ -55,26 +52,23 @@ module _ (o w : List ℕ) (bo : Bytes o) (bw : Bytes w) (s : List ℕ) (g : Soun
   converted-apart k Damaged e = a
   converted-apart k Already e = a
   converted-apart k Converted e =
-      let c = converts s k e in
-      let r : List ℕ = slot s k in
-      let br : Bytes r = bytes-row 2112 s k (g .bytes) in
-      let b = sound-len r (g .each k (c .0)) (c .1) in
-      let t : List ℕ = textOf o w r in
-      let bt : Bytes t = bytes-textOf o w r bo bw br in
-      let lt : length t ≡ len r = length-textOf r o w bo bw br (omega (arith, b, length-slot s k (c .0))) in
-      let ht : length t ≤ 2096 = omega (arith, b) in
-      let m : num (sheet w (num r) (rev r) t) ≡ num r = num-sheet w (num r) (rev r) t bw bt ht (num-bound r br) in
-      apart-put s k (c .0) (sheet w (num r) (rev r) t) (length-sheet w (num r) (rev r) t bw bt ht) a
-      (λ j hj nj z q. nj (a j k hj (c .0) (λ y. z (sym q ∙ y)) (q ∙ m)))
+      let c = convert-says o w s k bo bw (g .bytes) e in
+      apart-put s k (c .within) (rekeyed o w s k) (c .whole) a (λ j hj nj z q. nj (a j k hj (c .within) (λ y. z (sym q ∙ y)) (q ∙ c .number)))
 
   stepped-apart : (p : Plan) → Apart (stepStore o w s p)
   stepped-apart (Refuse x) = a
   stepped-apart (At k) = converted-apart k (outcomeAt s k) refl
 
-pub next-apart : (o w : List ℕ) → Bytes o → Bytes w → (e : Event) (st : State) → Allowed e → SoundStore (st .store) → Apart (st .store)
+next-apart : (o w : List ℕ) → Bytes o → Bytes w → (e : Event) (st : State) → Allowed e → SoundStore (st .store) → Apart (st .store)
     → Apart (next o w e st .store)
 next-apart o w bo bw (reading n b) st h g a = a
 next-apart o w bo bw (adding n t) st h g a = added-apart o w bo bw (st .store) g a n t (h .0) (h .1) (addPlan o w (st .store) n t) refl
 next-apart o w bo bw (revising n v t) st h g a = revised-apart o w bo bw (st .store) g a n v t (h .0) (h .2) (revisePlan o w (st .store) n v t) refl
 next-apart o w bo bw (removing n) st h g a = removed-apart o w bo bw (st .store) g a n (removePlan (st .store) n) refl
 next-apart o w bo bw (stepping c) st h g a = stepped-apart o w bo bw (st .store) g a (stepPlan o w (st .store) (st .place c))
+
+pub stays-apart : (o w : List ℕ) → badKeys o w ≡ false → Bytes o → Bytes w → (es : List Event) (st : State) → AllAllowed es → SoundStore (st .store)
+    → Apart (st .store) → Apart (final o w es st .store)
+stays-apart o w keys bo bw [] st h g a = a
+stays-apart o w keys bo bw (e ∷ es) st h g a =
+    stays-apart o w keys bo bw es (next o w e st) (h .1) (one-next o w keys bo bw e st (h .0) g .1) (next-apart o w bo bw e st (h .0) g a)

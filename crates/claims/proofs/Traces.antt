@@ -2,15 +2,15 @@
 -- afterwards what the store's texts decipher to is the plain list.
 -- Assumes nothing.
 use mathlib.Core.Path.{_≡_, refl, sym, ap, ap₂, _∙_}
-use mathlib.Core.Bool.{true, false}
+use mathlib.Core.Bool.{false}
 use mathlib.Core.List.{List, [], _∷_, _++_}
-use Prim.Native.Nat.{ℕ, _+_, _≤_, _<_}
+use Prim.Native.Nat.{ℕ, _+_, _<_}
 use native.Mathlib.Omega.{arith}
 use borrow.Author.Tests.{eqb-false}
-use lib.ListN.{length, drop}
+use lib.ListN.{length, drop, length-set}
 use Rattle.block.specs.Bytes.{Bytes}
 use Rattle.block.proofs.RowLaws.{bytes-row}
-use Rattle.slots.specs.Record.{num, rev, len, sound}
+use Rattle.slots.specs.Record.{num, rev, len}
 use Rattle.slots.specs.Text.{textOf}
 use Rattle.slots.specs.Slots.{slots, slot, find}
 use Rattle.slots.proofs.FieldLaws.{sound-len}
@@ -23,11 +23,12 @@ use Rattle.store.specs.declared.Stored.the-variants.{Revision}
 use Rattle.store.specs.Plans.{badKeys, readPlan, addPlan, revisePlan, removePlan, stepPlan, readAtPlan}
 use Rattle.store.specs.Calls.{readAnswer, readBuffer, addAnswer, reviseAnswer, removeAnswer}
 use Rattle.store.proofs.PlanLaws.{passed, slotOf, there}
-use Rattle.claims.specs.Plain.{Place, nothing, holding, revisionOf, textIn, at, readIn, addIn, reviseIn, removeIn, readText, readInto, added, afterAdd, revised, afterRevise, gone, afterRemove}
+use Rattle.claims.specs.Plain.{Place, nothing, holding, revisionOf, textIn, at, addIn, reviseIn, removeIn, readText, readInto, added, afterAdd, revised, afterRevise, gone, afterRemove}
 use Rattle.claims.specs.View.{plain}
-use Rattle.claims.specs.Machine.{Event, reading, adding, revising, removing, stepping, Allowed, AllAllowed, Answer, ofRead, ofStored, ofRemoved, ofStep, State, answer, next, answers, final, listAnswer, listNext, listAnswers, listFinal}
+use Rattle.claims.specs.Machine.{Event, reading, adding, revising, removing, stepping, Allowed, AllAllowed, Answer, ofRead, ofStored, ofRemoved, State, answer, next, answers, final, listAnswer, listNext, listAnswers, listFinal}
+use Rattle.claims.proofs.ViewLaws.{length-plain}
 use Rattle.claims.proofs.Simulation.{SoundStore, held, read-plain, add-plain, revise-plain, remove-plain}
-use Rattle.claims.proofs.Effects.{Revised, revise-says, effect-remove, effect-add, effect-revise, effect-step}
+use Rattle.claims.proofs.Effects.{revise-says, effect-remove, effect-add, effect-revise, effect-step}
 
 -- a plan of read that ends at slot k: the slot is used
 read-used : (o w s : List ℕ) (n b k : ℕ) → readPlan o w s n b ≡ At k → (k < slots s) × (num (slot s k) ≡ 0 → ⊥)
@@ -43,6 +44,28 @@ read-used o w s n b k e =
     let f : find s n ≡ k = ap slotOf (p7 .1) in
     let h : find s n < slots s = there s n (p4 .0) in
     (omega arith, λ q. eqb-false n 0 (p3 .0) (sym (find-has s n h) ∙ ap (λ (j : ℕ). num (slot s j)) f ∙ q))
+
+-- ---- the list keeps its length
+
+length-add : (l : List Place) (n : ℕ) (t : List ℕ) (p : Plan) → length (afterAdd l n t p) ≡ length l
+length-add l n t (Refuse x) = refl
+length-add l n t (At k) = length-set l k (holding n 1 t)
+
+length-revise : (l : List Place) (n : ℕ) (t : List ℕ) (p : Plan) → length (afterRevise l n t p) ≡ length l
+length-revise l n t (Refuse x) = refl
+length-revise l n t (At k) = length-set l k (holding n (revisionOf (at l k) + 1) t)
+
+length-remove : (l : List Place) (p : Plan) → length (afterRemove l p) ≡ length l
+length-remove l (Refuse x) = refl
+length-remove l (At k) = length-set l k nothing
+
+length-listFinal : (es : List Event) (l : List Place) → length (listFinal es l) ≡ length l
+length-listFinal [] l = refl
+length-listFinal (reading n b ∷ es) l = length-listFinal es l
+length-listFinal (adding n t ∷ es) l = length-listFinal es (listNext (adding n t) l) ∙ length-add l n t (addIn l n t)
+length-listFinal (revising n v t ∷ es) l = length-listFinal es (listNext (revising n v t) l) ∙ length-revise l n t (reviseIn l n v t)
+length-listFinal (removing n ∷ es) l = length-listFinal es (listNext (removing n) l) ∙ length-remove l (removeIn l n)
+length-listFinal (stepping c ∷ es) l = length-listFinal es l
 
 module _ (o w : List ℕ) (keys : badKeys o w ≡ false) (bo : Bytes o) (bw : Bytes w) where
   module _ (s : List ℕ) (g : SoundStore s) where
@@ -127,3 +150,11 @@ module _ (o w : List ℕ) (keys : badKeys o w ≡ false) (bo : Bytes o) (bw : By
       let c = one-next e st (a .0) g in
       let d = same-list es (next o w e st) (a .1) (c .1) in
       (d .0 ∙ ap (listFinal es) (c .0), d .1)
+
+  -- the list keeps its length, and so does the store
+  pub slots-stay : (es : List Event) (st : State) → AllAllowed es → SoundStore (st .store) → slots (final o w es st .store) ≡ slots (st .store)
+  slots-stay es st a g =
+      sym (length-plain o w (final o w es st .store))
+      ∙ ap length (same-list es st a g .0)
+      ∙ length-listFinal es (plain o w (st .store))
+      ∙ length-plain o w (st .store)

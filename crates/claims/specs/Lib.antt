@@ -2,4 +2,4 @@
 pub mod Plain
 pub mod View
 pub mod Machine
-pub mod Rekeying
+pub mod Claims

@@ -49,10 +49,24 @@ pub record State : Type 0 where
   pub store : List ℕ
   pub place : ℕ → ℕ
 
--- the place of copy c moved
-abbrev pub moved : ℕ → Stepped → (ℕ → ℕ) → ℕ → ℕ
-moved c (Went x k) p i = cond (eqb i c) k (p i)
-moved c (Refused y) p i = p i
+-- a step, whatever it does: the store and the place that it leaves, from a store and a place
+pub record Step : Type 0 where
+  pub leaves : List ℕ → ℕ → List ℕ
+  pub goesTo : List ℕ → ℕ → ℕ
+
+-- a refused step leaves the place where it was
+abbrev pub placeAfter : ℕ → Stepped → ℕ
+placeAfter k (Went x j) = j
+placeAfter k (Refused y) = k
+
+-- the step of 01, as the call answers and leaves it
+abbrev pub storeStep : List ℕ → List ℕ → Step
+storeStep o w =
+    record { leaves = λ s k. stepStore o w s (stepPlan o w s k); goesTo = λ s k. placeAfter k (stepAnswer s (stepPlan o w s k)) }
+
+-- the places with that of copy c moved
+abbrev pub moved : ℕ → ℕ → (ℕ → ℕ) → ℕ → ℕ
+moved c j p i = cond (eqb i c) j (p i)
 
 module _ (o w : List ℕ) where
   abbrev pub answer : Event → State → Answer
@@ -63,24 +77,28 @@ module _ (o w : List ℕ) where
   answer (removing n) st = ofRemoved (removeAnswer (removePlan (st .store) n))
   answer (stepping c) st = ofStep
 
+  -- with any step f in the place of 01's
+  abbrev pub nextBy : Step → Event → State → State
+  nextBy f (reading n b) st = st
+  nextBy f (adding n t) st = record { store = addStore w (st .store) n t (addPlan o w (st .store) n t); place = st .place }
+  nextBy f (revising n v t) st = record { store = reviseStore w (st .store) n t (revisePlan o w (st .store) n v t); place = st .place }
+  nextBy f (removing n) st = record { store = removeStore (st .store) (removePlan (st .store) n); place = st .place }
+  nextBy f (stepping c) st =
+      record { store = f .leaves (st .store) (st .place c); place = moved c (f .goesTo (st .store) (st .place c)) (st .place) }
+
+  abbrev pub finalBy : Step → List Event → State → State
+  finalBy f [] st = st
+  finalBy f (e ∷ es) st = finalBy f es (nextBy f e st)
+
   abbrev pub next : Event → State → State
-  next (reading n b) st = st
-  next (adding n t) st = record { store = addStore w (st .store) n t (addPlan o w (st .store) n t); place = st .place }
-  next (revising n v t) st = record { store = reviseStore w (st .store) n t (revisePlan o w (st .store) n v t); place = st .place }
-  next (removing n) st = record { store = removeStore (st .store) (removePlan (st .store) n); place = st .place }
-  next (stepping c) st =
-      record {
-        store = stepStore o w (st .store) (stepPlan o w (st .store) (st .place c));
-        place = moved c (stepAnswer (st .store) (stepPlan o w (st .store) (st .place c))) (st .place);
-      }
+  next e st = nextBy (storeStep o w) e st
+
+  abbrev pub final : List Event → State → State
+  final es st = finalBy (storeStep o w) es st
 
   abbrev pub answers : List Event → State → List Answer
   answers [] st = []
   answers (e ∷ es) st = answer e st ∷ answers es (next e st)
-
-  abbrev pub final : List Event → State → State
-  final [] st = st
-  final (e ∷ es) st = final es (next e st)
 
 -- ---- the plain list
 
