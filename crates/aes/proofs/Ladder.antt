@@ -1,13 +1,13 @@
 -- Each way out of the calls, from the tests that lead there.
 -- Assumes nothing.
-use mathlib.Core.Path.{_≡_, refl, sym, ap, _∙_}
+use mathlib.Core.Path.{_≡_, sym, ap, _∙_}
 use mathlib.Core.Bool.{Bool, true, false, cond, not}
 use mathlib.Core.List.{List, _++_, append-nil}
 use Prim.Native.Nat.{ℕ}
 use native.Mathlib.Nat.{le-of-eq}
 use borrow.Author.Tests.{eq-eqb, ne-eqb}
 use lib.Dec.{eqb}
-use lib.ListN.{length, take, drop, drop-of-length-le}
+use lib.ListN.{length, drop-of-length-le}
 use lib.Seq.{take-all}
 use Rattle.block.specs.Blocks.{blockAt, withBlock}
 use Rattle.schedule.specs.Size.{keySize, Nr}

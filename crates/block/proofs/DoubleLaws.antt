@@ -1,14 +1,14 @@
 -- Laws of doubling and padding.
 -- Assumes nothing.
-use mathlib.Core.Path.{_≡_, refl, sym, ap, ap₂, _∙_}
+use mathlib.Core.Path.{_≡_, refl, sym, ap, _∙_}
 use mathlib.Core.Bool.{Bool, true, false, cond}
-use mathlib.Core.List.{List, _∷_, _++_}
+use mathlib.Core.List.{List}
 use Prim.Native.Nat.{ℕ, zero, suc, _+_, _-_, _%_, _≤_, _<_, zero-le}
 use native.Mathlib.Nat.{le-refl, mod-lt}
 use native.Mathlib.Omega.{arith}
 use lib.Dec.{ltb, lit<}
 use lib.ListN.{length, getD, length-append, length-replicate}
-use Rattle.block.specs.Tab.{tab, byte}
+use Rattle.block.specs.Tab.{byte}
 use Rattle.block.specs.Bytes.{Bytes, Block}
 use Rattle.block.specs.Double.{carried, twice, double, pad}
 use Rattle.block.proofs.TabLaws.{getD-tab, bytes-tab}

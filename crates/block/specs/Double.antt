@@ -1,7 +1,7 @@
 -- 000, 5.1 (Mult-by-alpha), and 01: doubling of a block, and padding of a short one.
 -- Assumes nothing.
 use mathlib.Core.Bool.{cond}
-use mathlib.Core.List.{List, [], _∷_, _++_}
+use mathlib.Core.List.{List, _∷_, _++_}
 use Prim.Native.Nat.{ℕ, zero, suc, _+_, _-_, _%_}
 use lib.Bits.{bitXor}
 use lib.Dec.{ltb}

@@ -1,7 +1,7 @@
 -- 01: numbers are little-endian. The number that stands in s from `at` on, in two bytes and in four; and byte i of a number.
 -- Assumes nothing.
 use mathlib.Core.List.{List}
-use Prim.Native.Nat.{ℕ, _+_, _*_, _/_, _%_}
+use Prim.Native.Nat.{ℕ, _+_, _*_}
 use Rattle.block.specs.Tab.{byte}
 
 abbrev pub le16 : List ℕ → ℕ → ℕ

@@ -1,7 +1,7 @@
 -- FIPS 197, 5.1 and 5.3: the steps of a round and of an inverse round. The state is a list of 16 bytes, column after column: the
 -- byte in row r and column c, s[r,c], stands at place r + 4 * c (3.4), so row and column of place i are i % 4 and i / 4.
 -- Assumes nothing.
-use mathlib.Core.List.{List, [], _∷_}
+use mathlib.Core.List.{List}
 use Prim.Native.Nat.{ℕ, _+_, _*_, _/_, _%_}
 use lib.Bits.{bitXor}
 use Rattle.block.specs.Tab.{tab, byte}

@@ -1,10 +1,10 @@
 -- Laws of the byte field: products are bytes, and a product with a sum is the sum of the products.
 -- Assumes nothing.
 use mathlib.Core.Path.{_≡_, refl, sym, ap, ap₂, _∙_}
-use Prim.Native.Nat.{ℕ, zero, suc, _+_, _*_, _/_, _%_, _<_}
+use Prim.Native.Nat.{ℕ, zero, suc, _*_, _/_, _%_, _<_}
 use native.Mathlib.Nat.{add-zero}
 use native.Mathlib.Omega.{arith}
-use lib.Bits.{bitXor, xor-zero-r, xor-shr, xor-mod, xor-block}
+use lib.Bits.{bitXor, xor-shr, xor-mod, xor-block}
 use lib.Dec.{lit<}
 use Rattle.block.proofs.XorLaws.{xor-byte, xor-exchange}
 use Rattle.sbox.specs.Field.{reduction, xtime, plus, timesBy, _•_}

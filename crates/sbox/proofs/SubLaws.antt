@@ -2,8 +2,8 @@
 -- Assumes nothing.
 use mathlib.Core.Path.{_≡_, _∙_}
 use mathlib.Core.List.{List}
-use Prim.Native.Nat.{ℕ, _<_}
-use Rattle.block.specs.Tab.{tab, byte}
+use Prim.Native.Nat.{ℕ}
+use Rattle.block.specs.Tab.{byte}
 use Rattle.block.specs.Bytes.{Bytes, Block}
 use Rattle.block.proofs.TabLaws.{tab-ext, tab-eta, bytes-tab, block-tab}
 use Rattle.sbox.specs.Sub.{sub, invSub, subBytes, invSubBytes, subWord}

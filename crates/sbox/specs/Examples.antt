@@ -1,9 +1,8 @@
 -- Worked examples of FIPS 197, as theorems over the definitions.
 -- Assumes nothing.
 use mathlib.Core.Path.{_≡_, refl}
-use Prim.Native.Nat.{ℕ}
 use Rattle.sbox.specs.Field.{xtime, _•_}
-use Rattle.sbox.specs.Sub.{sub, invSub}
+use Rattle.sbox.specs.Sub.{sub}
 
 -- 4.2: {57} • {83} = {c1}, {57} • {13} = {fe}
 product : 0x57 • 0x83 ≡ 0xc1

@@ -9,7 +9,6 @@ use Rattle.block.specs.Tab.{tab}
 use lib.Dec.{ltb, ltb→lt}
 use Rattle.block.proofs.Table.{agree, each}
 use Rattle.sbox.specs.Field.{_•_, inverse}
-use Rattle.sbox.specs.Tables.{sbox, invSbox}
 use Rattle.sbox.specs.Sub.{sub, invSub}
 
 -- bit i of a byte, and the byte of 8 bits, the lowest first

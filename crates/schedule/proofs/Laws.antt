@@ -8,8 +8,8 @@ use native.Mathlib.Nat.{le-div-iff-mul-le, div-lt-iff-lt-mul}
 use native.Mathlib.Omega.{arith}
 use borrow.Author.Tests.{eqb-true}
 use lib.Bits.{bitXor, xor-zero-r}
-use lib.Dec.{ltb, ltb→lt, eqb, lit<}
-use lib.ListN.{length, getD, take, drop, set, replicate, length-append, length-drop, length-replicate, replicate-append-replicate}
+use lib.Dec.{ltb, ltb→lt, eqb}
+use lib.ListN.{length, getD, take, drop, set, replicate, length-append, length-drop, length-replicate}
 use lib.Seq.{length-take-le, getD-take, getD-drop, take-append-le, drop-append-le, drop-append-add, take-at, drop-at, drop-drop, sets-eq}
 use Rattle.block.specs.Tab.{tab, byte}
 use Rattle.block.specs.Bytes.{Bytes, Block}

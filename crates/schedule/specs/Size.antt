@@ -1,6 +1,6 @@
 -- FIPS 197, 5, table 3, for the key sizes that 01 takes. All else is over Nk, so that another size is one more number here.
 -- Assumes nothing.
-use mathlib.Core.Bool.{Bool, true, false, _||_}
+use mathlib.Core.Bool.{Bool, _||_}
 use mathlib.Core.List.{List}
 use Prim.Native.Nat.{ℕ, _+_, _/_}
 use lib.Dec.{eqb}

@@ -2,12 +2,11 @@
 -- key is the text that it was written with.
 -- Assumes nothing.
 use mathlib.Core.Path.{_≡_, refl, sym, ap, ap₂, _∙_}
-use mathlib.Core.Bool.{Bool, true, false, cond, not, _&&_}
-use mathlib.Core.List.{List, [], _∷_, _++_}
+use mathlib.Core.Bool.{true, false}
+use mathlib.Core.List.{List, _++_}
 use Prim.Native.Nat.{ℕ, zero, suc, _+_, _-_, _/_, _%_, _≤_, _<_}
 use native.Mathlib.Omega.{arith}
-use borrow.Author.Tests.{lt-ltb, le-leb, eq-eqb, ne-eqb}
-use lib.Dec.{eqb, ltb, leb, lit<}
+use lib.Dec.{lit<}
 use lib.ListN.{length, take, drop, replicate, length-append, length-replicate}
 use lib.Seq.{take-at, drop-at, drop-drop}
 use Rattle.block.specs.Bytes.{Bytes}
@@ -15,7 +14,7 @@ use Rattle.block.specs.Tab.{byte}
 use Rattle.block.proofs.BytesLaws.{bytes-cons, bytes-zeros, bytes-append}
 use Rattle.eme2.specs.Transform.{afterwards}
 use Rattle.eme2.proofs.Promise.{length-kept, bytes-kept, undone}
-use Rattle.slots.specs.Record.{num, rev, mark, len, leadOf, stored, allZero, soundUsed, sound, lead, recordOf}
+use Rattle.slots.specs.Record.{num, rev, mark, len, leadOf, stored, allZero, sound, lead, recordOf}
 use Rattle.slots.specs.Text.{textOf, sheet}
 use Rattle.slots.proofs.FieldLaws.{sound-taken, used-last}
 use Rattle.slots.proofs.WriteLaws.{length-lead}

@@ -1,11 +1,11 @@
 -- The ladders of refusals, step by step, and what a plan that ends at a slot says of it.
 -- Assumes nothing.
-use mathlib.Core.Path.{_≡_, refl, sym, ap, ap₂, _∙_}
+use mathlib.Core.Path.{_≡_, refl, sym, ap, _∙_}
 use mathlib.Core.Bool.{Bool, true, false, not, _||_}
 use mathlib.Core.List.{List}
-use Prim.Native.Nat.{ℕ, _+_, _*_, _/_, _%_, _≤_, _<_}
+use Prim.Native.Nat.{ℕ, _≤_, _<_}
 use native.Mathlib.Omega.{arith}
-use borrow.Author.Tests.{ltb-false, eqb-true, eqb-false, eq-eqb, ne-eqb, lt-ltb, le-ltb, not-true, not-false}
+use borrow.Author.Tests.{ltb-false, eqb-true, eqb-false, eq-eqb, not-false}
 use lib.Dec.{eqb, ltb}
 use lib.ListN.{length}
 use Rattle.block.specs.Bytes.{Bytes}
@@ -19,7 +19,7 @@ use Rattle.slots.proofs.TextLaws.{length-textOf}
 use Rattle.store.specs.declared.Refusal.{Refusal}
 use Rattle.store.specs.declared.Plan.{Plan}
 use Rattle.store.specs.declared.Plan.the-variants.{Refuse, At}
-use Rattle.store.specs.Plans.{guard, badKeys, badSize, badText, absent, readAtPlan, readPlan, addPlan, reviseAtPlan, revisePlan, removePlan}
+use Rattle.store.specs.Plans.{guard, badText, absent, readAtPlan, readPlan, addPlan, reviseAtPlan, revisePlan, removePlan}
 
 -- ---- one step of a ladder
 

@@ -1,11 +1,11 @@
 -- A call that had run and is made again: a revision is refused with 8, and an add with 11, while nothing else came between.
 -- Assumes nothing.
-use mathlib.Core.Path.{_≡_, refl, sym, ap, _∙_}
-use mathlib.Core.Bool.{Bool, true, false, not, _||_}
+use mathlib.Core.Path.{_≡_, ap, _∙_}
+use mathlib.Core.Bool.{true, false, not, _||_}
 use mathlib.Core.List.{List}
-use Prim.Native.Nat.{ℕ, _+_, _*_, _/_, _%_, _≤_, _<_}
+use Prim.Native.Nat.{ℕ, _+_, _/_, _%_, _≤_, _<_}
 use native.Mathlib.Omega.{arith}
-use borrow.Author.Tests.{eqb-false, eqb-true, eq-eqb, ne-eqb, ltb-false, not-false}
+use borrow.Author.Tests.{eqb-false, eqb-true, eq-eqb, ne-eqb, not-false}
 use lib.Dec.{eqb, ltb}
 use lib.ListN.{length}
 use Rattle.block.specs.Bytes.{Bytes}
@@ -14,10 +14,10 @@ use Rattle.slots.specs.Record.{num, rev, sound}
 use Rattle.slots.specs.Text.{sheet}
 use Rattle.slots.specs.Slots.{slots, slot, put, find}
 use Rattle.slots.proofs.FieldLaws.{rev-bound}
-use Rattle.slots.proofs.FindLaws.{hasNum, lowest-is, find-le, find-lowest}
+use Rattle.slots.proofs.FindLaws.{hasNum, lowest-is, find-lowest}
 use Rattle.store.specs.declared.Plan.the-variants.{Refuse, At}
 use Rattle.store.specs.declared.Refusal.the-variants.{OtherRevision, SheetThere}
-use Rattle.store.specs.Plans.{guard, badKeys, badSize, badText, absent, reviseAtPlan, revisePlan, addPlan}
+use Rattle.store.specs.Plans.{badSize, badText, absent, reviseAtPlan, revisePlan, addPlan}
 use Rattle.store.proofs.PlanLaws.{yes, no, passed, slotOf, there, text-fits, long-enough}
 use Rattle.store.proofs.RoundTrip.{length-sheet, number-back, revision-back, sound-back}
 

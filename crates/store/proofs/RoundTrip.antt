@@ -11,7 +11,7 @@ use Rattle.block.specs.Bytes.{Bytes}
 use Rattle.block.proofs.RowLaws.{row-put}
 use Rattle.eme2.specs.Transform.{afterwards}
 use Rattle.eme2.proofs.Promise.{length-kept}
-use Rattle.slots.specs.Record.{num, rev, mark, sound, lead, recordOf}
+use Rattle.slots.specs.Record.{num, rev, mark, sound, lead}
 use Rattle.slots.specs.Text.{textOf, sheet}
 use Rattle.slots.specs.Slots.{slots, slot, put}
 use Rattle.slots.proofs.RecordLaws.{bytes-lead, num-record, rev-record, mark-record, length-record, sound-record, sheet-text}

@@ -1,7 +1,7 @@
 -- 01, the store: what each call answers and what it leaves in the store, the text buffer and the job's place, for every input; and that these
 -- statements determine them. Keys: o the old one, w the new one. The store is s, and s′ afterwards.
 -- Assumes nothing.
-use mathlib.Core.Bool.{Bool, true, false, cond, not, _&&_, _||_}
+use mathlib.Core.Bool.{Bool, cond, not, _&&_, _||_}
 use mathlib.Core.Path.{_≡_, sym, _∙_}
 use mathlib.Core.List.{List, _++_}
 use Prim.Native.Nat.{ℕ, _+_}

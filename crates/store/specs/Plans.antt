@@ -3,10 +3,10 @@
 use mathlib.Core.Bool.{Bool, true, false, not, _||_}
 use mathlib.Core.List.{List}
 use Prim.Native.Nat.{ℕ, _-_, _/_, _%_}
-use lib.Dec.{eqb, ltb, leb}
+use lib.Dec.{eqb, ltb}
 use lib.ListN.{length}
 use Rattle.schedule.specs.Size.{keySize}
-use Rattle.slots.specs.Record.{num, rev, len, sound}
+use Rattle.slots.specs.Record.{rev, len, sound}
 use Rattle.slots.specs.Text.{textOf}
 use Rattle.slots.specs.Slots.{slots, slot, find}
 use Rattle.store.specs.declared.Refusal.{Refusal}

@@ -1,23 +1,19 @@
 -- The wide block keeps the message's length, and its result is bytes; T_star is a block.
 -- Assumes nothing.
 use mathlib.Core.Path.{_≡_, refl, ap, _∙_}
-use mathlib.Core.List.{List, [], _∷_, _++_}
-use Prim.Native.Nat.{ℕ, zero, suc, _+_, _*_, _≤_, _<_}
+use mathlib.Core.List.{List, [], _∷_}
+use Prim.Native.Nat.{ℕ, suc, _+_, _*_, _≤_, _<_}
 use native.Mathlib.Nat.{not-suc-le-zero}
 use native.Mathlib.Omega.{arith}
-use lib.ListN.{length, drop, replicate, length-append, length-drop}
-use Rattle.block.specs.Xor.{_⊕_}
+use lib.ListN.{length, length-append, length-drop}
 use Rattle.block.specs.Bytes.{Bytes, Block}
 use Rattle.block.specs.Blocks.{full, rest, blocks, join}
-use Rattle.block.specs.Double.{double, pad}
-use Rattle.block.proofs.XorLaws.{block-⊕}
+use Rattle.block.specs.Double.{double}
 use Rattle.block.proofs.BytesLaws.{bytes-append, bytes-drop, bytes-zeros}
 use Rattle.block.proofs.BlockLaws.{length-rest, length-join}
-use Rattle.block.proofs.DoubleLaws.{block-double, block-pad}
 use Rattle.wide.specs.Permutation.{Undoes}
 use Rattle.wide.specs.Wide.{enter, leave, middle, Cm, CCCs, CCC1, wideOn, wide}
-use Rattle.wide.specs.TStar.{TTs, doubles, shortTT, sum, someTStar, tStar, eme2TStar}
-use Rattle.wide.proofs.Totals.{AllBlocks, all-append, block-total}
+use Rattle.wide.proofs.Totals.{AllBlocks}
 use Rattle.wide.proofs.Undo.{all-sized, all-blocks, length-blocks, block-enter, block-leave, block-CCC1, block-CCCs, length-Cm, bytes-Cm}
 
 pub length-enter : (f : List ℕ → List ℕ) (L : List ℕ) (Ps : List (List ℕ)) → length (enter f L Ps) ≡ length Ps

@@ -1,16 +1,16 @@
 -- The mixing as the code makes it: running sums, one block after the other, and the short block byte by byte.
 -- Assumes nothing.
-use mathlib.Core.Path.{_≡_, refl, sym, ap, ap₂, _∙_}
+use mathlib.Core.Path.{_≡_, refl, ap, ap₂, _∙_}
 use mathlib.Core.Bool.{Bool, true, false, cond}
 use mathlib.Core.List.{List, [], _∷_, _++_}
-use Prim.Native.Nat.{ℕ, zero, suc, _+_, _-_, _*_, _/_, _%_, _≤_, _<_}
+use Prim.Native.Nat.{ℕ, _+_, _-_, _*_, _/_, _%_, _≤_, _<_}
 use native.Mathlib.Nat.{not-suc-le-zero}
 use native.Mathlib.Omega.{arith}
 use borrow.Author.Tests.{eq-eqb, ne-eqb}
 use lib.Dec.{eqb}
-use lib.ListN.{length, take, drop, length-drop}
+use lib.ListN.{length, take, drop}
 use Rattle.block.specs.Xor.{_⊕_}
-use Rattle.block.specs.Blocks.{full, rest, blocks}
+use Rattle.block.specs.Blocks.{full, blocks}
 use Rattle.block.specs.Double.{double, pad}
 use Rattle.block.proofs.XorLaws.{length-⊕}
 use Rattle.block.proofs.BlockLaws.{first-block, first-rest}

@@ -1,14 +1,13 @@
 -- T_star is a block, whatever the associated data.
 -- Assumes nothing.
-use mathlib.Core.Path.{_≡_, refl}
+use mathlib.Core.Path.{refl}
 use mathlib.Core.List.{List, [], _∷_, _++_}
-use Prim.Native.Nat.{ℕ, zero, suc, _*_, _<_}
+use Prim.Native.Nat.{ℕ, _*_, _<_}
 use native.Mathlib.Omega.{arith}
-use lib.ListN.{length, drop}
-use Rattle.block.specs.Xor.{_⊕_}
+use lib.ListN.{length}
 use Rattle.block.specs.Bytes.{Bytes, Block}
 use Rattle.block.specs.Blocks.{full, rest, blocks}
-use Rattle.block.specs.Double.{double, pad}
+use Rattle.block.specs.Double.{double}
 use Rattle.block.proofs.XorLaws.{block-⊕}
 use Rattle.block.proofs.BytesLaws.{bytes-drop, bytes-zeros}
 use Rattle.block.proofs.BlockLaws.{length-rest}

@@ -1,13 +1,12 @@
 -- Sums of blocks: a sum that is added twice cancels.
 -- Assumes nothing.
-use mathlib.Core.Path.{_≡_, refl, sym, ap, ap₂, _∙_}
+use mathlib.Core.Path.{_≡_, refl, sym, ap, _∙_}
 use mathlib.Core.List.{List, [], _∷_, _++_}
 use Prim.Native.Nat.{ℕ}
 use native.Mathlib.Nat.{le-of-eq}
-use lib.ListN.{length}
 use Rattle.block.specs.Xor.{_⊕_}
 use Rattle.block.specs.Bytes.{Block}
-use Rattle.block.proofs.XorLaws.{length-⊕, ⊕-undo, ⊕-comm, ⊕-assoc, block-⊕}
+use Rattle.block.proofs.XorLaws.{⊕-undo, ⊕-comm, ⊕-assoc, block-⊕}
 use Rattle.wide.specs.Wide.{total}
 
 -- a list of blocks

@@ -1,19 +1,18 @@
 -- The steps that the code takes over the bytes of a message are together the wide block of the definition.
 -- Assumes nothing.
 use mathlib.Core.Path.{_≡_, refl, sym, ap, ap₂, _∙_}
-use mathlib.Core.Bool.{Bool, true, false, cond}
 use mathlib.Core.List.{List, [], _∷_, _++_, map, append-assoc}
-use Prim.Native.Nat.{ℕ, suc, _+_, _*_, _≤_, _<_}
+use Prim.Native.Nat.{ℕ, suc, _*_, _≤_, _<_}
 use native.Mathlib.Nat.{not-suc-le-zero}
 use native.Mathlib.Omega.{arith}
-use lib.ListN.{length, take, drop, length-drop}
+use lib.ListN.{length, take, drop}
 use lib.Seq.{length-take-le, take-at, drop-at}
 use Rattle.block.specs.Xor.{_⊕_}
 use Rattle.block.specs.Blocks.{blockAt, withBlock, full, rest, blocks, join, onBlocks}
 use Rattle.block.specs.Double.{double}
 use Rattle.block.proofs.XorLaws.{length-⊕}
 use Rattle.block.proofs.BlockLaws.{Sized, sized-blocks, first-block, first-rest, length-rest, length-join, full-join, rest-join, blocks-of, on-join}
-use Rattle.wide.specs.Wide.{enter, leave, total, padded, begins, mask, cccOf, middle, MP, MC1, mm, mc1, m1, Cm, CCCs, CCC1, wideOn, wide}
+use Rattle.wide.specs.Wide.{enter, total, padded, mask, middle, MP, MC1, mm, mc1, m1, Cm, CCCs, CCC1, wideOn, wide}
 use Rattle.wide.specs.Passes.{masked, totalOf, mixedOn, mixed}
 use Rattle.wide.proofs.Undo.{length-blocks}
 use Rattle.wide.proofs.Lengths.{length-enter}

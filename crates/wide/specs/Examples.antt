@@ -2,10 +2,10 @@
 -- the same input: one block, a short last block, full blocks, and a new mask at block 129, with and without a short block after it; and T_star.
 -- Assumes nothing.
 use mathlib.Core.Path.{_≡_, refl}
-use mathlib.Core.List.{List, [], _∷_, _++_}
+use mathlib.Core.List.{List, [], _∷_}
 use Prim.Native.Nat.{ℕ, _+_, _*_, _%_}
 use lib.Bits.{bitXor}
-use lib.ListN.{take, drop}
+use lib.ListN.{drop}
 use Rattle.block.specs.Tab.{tab, byte}
 use Rattle.block.specs.Xor.{_⊕_}
 use Rattle.block.specs.Blocks.{blocks, join}

@@ -4,8 +4,8 @@ use mathlib.Core.Path.{_≡_, refl, sym, ap, _∙_}
 use mathlib.Core.List.{List, _++_}
 use Prim.Native.Nat.{ℕ, _+_, _≤_, _-_}
 use native.Mathlib.Omega.{arith}
-use lib.ListN.{length, getD, take, drop, set, replicate, length-drop}
-use lib.Seq.{length-take-le, getD-take, getD-drop}
+use lib.ListN.{length, getD, take, drop, set, replicate}
+use lib.Seq.{getD-take, getD-drop}
 use Rattle.block.specs.Blocks.{blockAt}
 use Rattle.block.proofs.BlockLaws.{fill-turn, fill-done, length-blockAt}
 use Rattle.block.proofs.load.Statement.{statement}

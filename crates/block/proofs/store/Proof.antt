@@ -1,13 +1,13 @@
 -- `block::store` meets its contract: after i turns i bytes of the block stand in their place. `b` is the whole of its first 16 bytes.
 -- Assumes nothing.
-use mathlib.Core.Path.{_≡_, refl, sym, ap, _∙_}
+use mathlib.Core.Path.{_≡_, sym, ap, _∙_}
 use mathlib.Core.List.{List, _++_}
 use Prim.Native.Nat.{ℕ, _+_, _≤_, _-_}
 use native.Mathlib.Nat.{le-of-eq}
 use native.Mathlib.Numerals.{add-one}
 use native.Mathlib.Omega.{arith}
 use borrow.Author.Needs.{needs}
-use lib.ListN.{length, getD, take, drop, set, length-set}
+use lib.ListN.{length, getD, take, drop, set}
 use lib.Seq.{paste, paste-zero, paste-suc, length-paste, take-all}
 use Rattle.block.proofs.store.Statement.{statement}
 use Rattle.block.proofs.store.Tie as tie

@@ -1,9 +1,7 @@
 -- `cipher::crypt` meets its contract: the direction picks the case of `crypted`.
 -- Assumes nothing.
-use mathlib.Core.Path.{_≡_, sym, ap, _∙_}
+use mathlib.Core.Path.{sym, ap, _∙_}
 use mathlib.Core.Bool.{Bool}
-use mathlib.Core.List.{List}
-use Prim.Native.Nat.{ℕ}
 use borrow.Author.Needs.{needs}
 use Rattle.cipher.specs.Cipher.{crypted}
 use Rattle.cipher.proofs.crypt.Statement.{statement}

@@ -7,7 +7,7 @@ use native.Mathlib.Omega.{arith}
 use borrow.Author.Needs.{needs}
 use Rattle.block.specs.Xor.{_⊕_}
 use Rattle.sbox.specs.Sub.{invSubBytes}
-use Rattle.rounds.specs.Steps.{invShiftRows, invMixColumns}
+use Rattle.rounds.specs.Steps.{invMixColumns}
 use Rattle.cipher.specs.Cipher.{key, inverseFrom, invCipher}
 use Rattle.cipher.proofs.RoundLaws.{round-undone, last-undone}
 use Rattle.cipher.proofs.inverse.Statement.{statement}

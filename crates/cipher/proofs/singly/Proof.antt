@@ -6,7 +6,7 @@ use Prim.Native.Nat.{ℕ, _+_, _-_, _≤_}
 use native.Mathlib.Omega.{arith}
 use borrow.Author.Needs.{needs}
 use lib.ListN.{length, take, drop}
-use Rattle.block.specs.Blocks.{withBlock, onBlocks}
+use Rattle.block.specs.Blocks.{onBlocks}
 use Rattle.block.proofs.BlockLaws.{on-turn, on-done}
 use Rattle.cipher.specs.Cipher.{crypted}
 use Rattle.cipher.proofs.singly.Statement.{statement}

@@ -1,7 +1,6 @@
 -- `eme2::key_taken` meets its contract.
 -- Assumes nothing.
-use mathlib.Core.Path.{_≡_, sym}
-use native.Mathlib.Omega.{arith}
+use mathlib.Core.Path.{sym}
 use borrow.Author.Needs.{needs}
 use Rattle.eme2.proofs.Ladder.{key-below}
 use Rattle.eme2.proofs.key_taken.Statement.{statement}

@@ -5,7 +5,7 @@ use mathlib.Core.List.{List, _++_}
 use Prim.Native.Nat.{ℕ, _≤_, _-_}
 use native.Mathlib.Omega.{arith}
 use borrow.Author.Needs.{needs}
-use lib.ListN.{length, getD, take, drop, set}
+use lib.ListN.{length, take, drop, set}
 use Rattle.block.specs.Tab.{byte}
 use Rattle.block.proofs.TabLaws.{getD-tab}
 use Rattle.block.proofs.BlockLaws.{fill-turn, fill-done}

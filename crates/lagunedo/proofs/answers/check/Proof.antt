@@ -1,8 +1,6 @@
 -- `lagunedo::answers::check` meets its contract: the store's answer, read off as numbers.
 -- Assumes nothing.
-use mathlib.Core.Path.{_≡_, sym, ap, _∙_}
-use mathlib.Core.List.{List}
-use Prim.Native.Nat.{ℕ}
+use mathlib.Core.Path.{sym, ap, _∙_}
 use Rattle.lagunedo.specs.Sheets.{checkNumber, faultOr, usedOr, freeOr, clearOr, oldOr, newOr}
 use borrow.Author.Needs.{needs}
 use Rattle.lagunedo.proofs.answers.check.Statement.{statement}

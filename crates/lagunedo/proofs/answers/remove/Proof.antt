@@ -1,8 +1,6 @@
 -- `lagunedo::answers::remove` meets its contract: the store's answer, read off as a number.
 -- Assumes nothing.
-use mathlib.Core.Path.{_≡_, sym, ap, _∙_}
-use mathlib.Core.List.{List}
-use Prim.Native.Nat.{ℕ}
+use mathlib.Core.Path.{sym, ap, _∙_}
 use Rattle.lagunedo.specs.Sheets.{removedNumber}
 use borrow.Author.Needs.{needs}
 use Rattle.lagunedo.proofs.answers.remove.Statement.{statement}

@@ -1,8 +1,6 @@
 -- `slots::table::put_sheet_at` meets its contract: the part that is lent is the slot.
 -- Assumes nothing.
-use mathlib.Core.Path.{_≡_, ap, _∙_}
-use mathlib.Core.List.{List}
-use Prim.Native.Nat.{ℕ}
+use mathlib.Core.Path.{ap, _∙_}
 use Rattle.slots.specs.Slots.{put}
 use Rattle.slots.proofs.WriteLaws.{slot-changed}
 use borrow.Author.Needs.{needs}

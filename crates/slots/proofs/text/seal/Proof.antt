@@ -1,6 +1,5 @@
 -- `slots::text::seal` meets its contract: the lead loaded, and the part after it enciphered.
 -- Assumes nothing.
-use mathlib.Core.Path.{_≡_}
 use Rattle.slots.proofs.WriteLaws.{sealing}
 use borrow.Author.Needs.{needs}
 use Rattle.slots.proofs.text.seal.Statement.{statement}

@@ -6,7 +6,7 @@ use Prim.Native.Nat.{ℕ, _+_, _≤_, _-_, _<_}
 use native.Mathlib.Nat.{le-of-eq}
 use native.Mathlib.Numerals.{add-one}
 use native.Mathlib.Omega.{arith}
-use lib.ListN.{length, getD, take, drop, set, replicate, length-replicate, getD-replicate, drop-of-length-le}
+use lib.ListN.{length, take, set, replicate, length-replicate, getD-replicate, drop-of-length-le}
 use lib.Seq.{paste, paste-zero, paste-suc, length-paste, take-all}
 use Rattle.slots.proofs.write.clear.Statement.{statement}
 use Rattle.slots.proofs.write.clear.Tie as tie

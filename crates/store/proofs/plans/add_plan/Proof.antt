@@ -1,9 +1,7 @@
 -- `store::plans::add_plan` meets its contract: each return follows from the tests before it, in their order.
 -- Assumes nothing.
-use mathlib.Core.Path.{_≡_, sym, ap, _∙_}
+use mathlib.Core.Path.{sym, ap, _∙_}
 use mathlib.Core.Bool.{not}
-use mathlib.Core.List.{List}
-use Prim.Native.Nat.{ℕ}
 use borrow.Author.Tests.{eq-eqb, ne-eqb}
 use Rattle.slots.specs.Slots.{slots, find}
 use Rattle.store.specs.declared.Plan.the-variants.{At}

@@ -1,8 +1,6 @@
 -- `store::plans::remove_plan` meets its contract: each return follows from the tests before it, in their order.
 -- Assumes nothing.
-use mathlib.Core.Path.{_≡_, sym, ap, _∙_}
-use mathlib.Core.List.{List}
-use Prim.Native.Nat.{ℕ}
+use mathlib.Core.Path.{sym, ap, _∙_}
 use borrow.Author.Tests.{eq-eqb, ne-eqb}
 use Rattle.slots.specs.Slots.{slots, find}
 use Rattle.store.specs.declared.Plan.the-variants.{At}

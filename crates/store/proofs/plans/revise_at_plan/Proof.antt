@@ -5,7 +5,6 @@ use mathlib.Core.Bool.{false, not}
 use mathlib.Core.List.{List}
 use Prim.Native.Nat.{ℕ}
 use borrow.Author.Tests.{eq-eqb, ne-eqb}
-use lib.Dec.{eqb}
 use Rattle.slots.specs.Record.{rev, sound}
 use Rattle.slots.specs.Slots.{slot}
 use Rattle.slots.proofs.FindLaws.{slot-part}

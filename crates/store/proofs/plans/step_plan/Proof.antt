@@ -1,6 +1,6 @@
 -- `store::plans::step_plan` meets its contract: each return follows from the tests before it, in their order.
 -- Assumes nothing.
-use mathlib.Core.Path.{_≡_, sym, _∙_}
+use mathlib.Core.Path.{sym, _∙_}
 use Rattle.store.specs.Plans.{stepPlan}
 use Rattle.store.proofs.PlanLaws.{yes, no}
 use borrow.Author.Needs.{needs}

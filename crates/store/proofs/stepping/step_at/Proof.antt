@@ -1,8 +1,6 @@
 -- `store::stepping::step_at` meets its contract: what the plan says is done.
 -- Assumes nothing.
 use mathlib.Core.Path.{_≡_, sym, ap, _∙_}
-use mathlib.Core.List.{List}
-use Prim.Native.Nat.{ℕ}
 use Rattle.store.specs.declared.Plan.the-variants.{Refuse, At}
 use Rattle.store.specs.Plans.{stepPlan}
 use Rattle.store.specs.Calls.{stepAnswer, stepStore}

@@ -1,13 +1,12 @@
 -- `wide::mixing::short` meets its contract: the bytes below i are done.
 -- Assumes nothing.
-use mathlib.Core.Path.{_≡_, refl, sym, ap, ap₂, _∙_}
+use mathlib.Core.Path.{_≡_, refl, sym, ap, _∙_}
 use mathlib.Core.List.{List, _++_}
-use Prim.Native.Nat.{ℕ, _+_, _-_, _*_, _≤_, _<_}
+use Prim.Native.Nat.{ℕ, _-_, _*_, _≤_}
 use native.Mathlib.Omega.{arith}
 use lib.Bits.{bitXor}
 use lib.ListN.{length, getD, take, drop, set, length-set}
-use Rattle.block.specs.Xor.{_⊕_}
-use Rattle.block.specs.Blocks.{full, rest}
+use Rattle.block.specs.Blocks.{full}
 use Rattle.block.proofs.ArrayBytes.{array-block}
 use Rattle.block.proofs.BlockLaws.{fill-turn, fill-next, fill-done}
 use Rattle.wide.proofs.ShortLaws.{shorted, length-shorted, short-start, short-at}
