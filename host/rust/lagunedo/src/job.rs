@@ -31,6 +31,17 @@ pub struct Job {
 /// Works on the slot at the place, keeps every byte of the others, and moves
 /// the place on by one, unless the job is done.
 ///
+/// ```
+/// use lagunedo::{step, Outcome};
+///
+/// let (old, new) = ([1; 48], [2; 48]);
+/// let mut store = vec![0; 2_112];
+/// let mut place = 0;
+/// assert_eq!(step(&old, &new, &mut store, &mut place), Ok(Outcome::Free));
+/// assert_eq!(step(&old, &new, &mut store, &mut place), Ok(Outcome::Done));
+/// assert_eq!(place, 1);
+/// ```
+///
 /// # Errors
 ///
 /// [`Refusal::KEY_LENGTH`] where one of the two keys, which may differ in
@@ -63,6 +74,25 @@ pub fn step(
 }
 
 /// The same with the place in a [`Job`].
+///
+/// ```
+/// use lagunedo::{job_step, read, Job, Outcome};
+///
+/// // Sheet 305 at revision 2, in clear: the lead, then the text.
+/// let (old, new) = ([1; 48], [2; 64]);
+/// let mut store = vec![0; 2_112];
+/// store[..10].copy_from_slice(&[0x31, 0x01, 0, 0, 2, 0, 0, 0, 16, 0]);
+/// store[16..32].copy_from_slice(b"PRESS 4 HOLD 5AM");
+///
+/// // Two copies of the job: what one has converted, the other leaves.
+/// let (mut one, mut two) = (Job::default(), Job::default());
+/// assert_eq!(job_step(&mut one, &old, &new, &mut store), Ok(Outcome::Converted));
+/// assert_eq!(job_step(&mut two, &old, &new, &mut store), Ok(Outcome::Already));
+/// let mut text = [0; 16];
+/// assert_eq!(read(&old, &new, &store, 305, &mut text)?.revision, 2);
+/// assert_eq!(&text, b"PRESS 4 HOLD 5AM");
+/// # Ok::<(), lagunedo::Refusal>(())
+/// ```
 ///
 /// # Errors
 ///

@@ -6,6 +6,36 @@
 //! - [`check`], [`read`], [`add`], [`revise`], [`remove`]: a store of sheets
 //! - [`step`], [`job_step`]: its rekeying
 //! - [`raw`]: all of them as C has them
+//!
+//! A store is bytes that the caller lends; all zeros is one whose slots are
+//! free. This is the run that a retried job once spoiled, as it goes here:
+//!
+//! ```
+//! use lagunedo::{add, check, read, revise, Checked, Refusal};
+//!
+//! let (old, new) = ([1; 48], [2; 64]);
+//! let mut store = vec![0; 2 * 2_112];
+//! assert_eq!(add(&old, &new, &mut store, 305, b"PRESS 4 HOLD 5AM"), Ok(1));
+//!
+//! // The operator reads revision 1 and revises it; the answer gets lost.
+//! let mut text = [0; 2_096];
+//! let found = read(&old, &new, &store, 305, &mut text)?;
+//! assert_eq!(&text[..found.length as usize], b"PRESS 4 HOLD 5AM");
+//! let better = b"PRESS 2 HOLD 6AM";
+//! assert_eq!(revise(&old, &new, &mut store, 305, found.revision, better), Ok(2));
+//!
+//! // Made again, the same call is refused with 8, and nothing changes.
+//! let before = store.clone();
+//! let again = revise(&old, &new, &mut store, 305, found.revision, better);
+//! assert_eq!(again, Err(Refusal::OTHER_REVISION));
+//! assert_eq!(store, before);
+//!
+//! let Checked::Sound(counts) = check(&store)? else {
+//!     panic!("a slot is faulty");
+//! };
+//! assert_eq!((counts.used, counts.free, counts.new_key), (1, 1, 1));
+//! # Ok::<(), Refusal>(())
+//! ```
 
 mod job;
 pub mod raw;
@@ -22,6 +52,18 @@ pub use store::{add, check, read, remove, revise, Checked, Counts, Found, FAULTY
 
 /// Enciphers one block in place with AES-128 (a key of 16 bytes) or AES-256
 /// (one of 32).
+///
+/// ```
+/// // FIPS 197, C.1
+/// let key: Vec<u8> = (0x00..=0x0f).collect();
+/// let mut block: Vec<u8> = (0..16).map(|i| i * 0x11).collect();
+/// lagunedo::aes_encipher(&key, &mut block)?;
+/// assert_eq!(block[..4], [0x69, 0xc4, 0xe0, 0xd8]);
+///
+/// let refused = lagunedo::aes_encipher(&key[1..], &mut block);
+/// assert_eq!(refused, Err(lagunedo::Refusal::KEY_LENGTH));
+/// # Ok::<(), lagunedo::Refusal>(())
+/// ```
 ///
 /// # Errors
 ///
@@ -40,6 +82,14 @@ pub fn aes_encipher(key: &[u8], block: &mut [u8]) -> Result<(), Refusal> {
 
 /// Deciphers one block in place: undoes [`aes_encipher`] under the same key.
 ///
+/// ```
+/// let (key, mut block) = ([7; 32], *b"PRESS 4 HOLD 5AM");
+/// lagunedo::aes_encipher(&key, &mut block)?;
+/// lagunedo::aes_decipher(&key, &mut block)?;
+/// assert_eq!(&block, b"PRESS 4 HOLD 5AM");
+/// # Ok::<(), lagunedo::Refusal>(())
+/// ```
+///
 /// # Errors
 ///
 /// Those of [`aes_encipher`]. A wrong key of an allowed length is no error.
@@ -54,6 +104,19 @@ pub fn aes_decipher(key: &[u8], block: &mut [u8]) -> Result<(), Refusal> {
 /// key of 48 bytes (AES-128 inside) or 64 (AES-256) and with associated data
 /// of up to 1,024 bytes, which may be empty. The result is as long as the
 /// message.
+///
+/// ```
+/// use lagunedo::{eme2_encipher, Refusal};
+///
+/// let mut message = *b"PRESS 4 HOLD 5AM!";
+/// eme2_encipher(&[7; 48], b"sheet 305", &mut message)?;
+/// assert_ne!(&message, b"PRESS 4 HOLD 5AM!");
+///
+/// // Of several faults the first in order is the answer.
+/// let refused = eme2_encipher(&[7; 47], &[0; 1_025], &mut message[..15]);
+/// assert_eq!(refused, Err(Refusal::KEY_LENGTH));
+/// # Ok::<(), Refusal>(())
+/// ```
 ///
 /// # Errors
 ///
@@ -84,6 +147,22 @@ pub fn eme2_encipher(key: &[u8], ad: &[u8], message: &mut [u8]) -> Result<(), Re
 /// The cipher does not detect forgery. A wrong key of an allowed length, other
 /// associated data, or bytes that were changed, cut off or added are no error:
 /// the answer is `Ok`, and the message then holds other bytes.
+///
+/// ```
+/// use lagunedo::{eme2_decipher, eme2_encipher};
+///
+/// let (key, mut message) = ([7; 64], *b"PRESS 4 HOLD 5AM!");
+/// eme2_encipher(&key, b"sheet 305", &mut message)?;
+/// let stored = message;
+/// eme2_decipher(&key, b"sheet 305", &mut message)?;
+/// assert_eq!(&message, b"PRESS 4 HOLD 5AM!");
+///
+/// // Other associated data is not noticed: the bytes are other bytes.
+/// let mut message = stored;
+/// eme2_decipher(&key, b"sheet 306", &mut message)?;
+/// assert_ne!(&message, b"PRESS 4 HOLD 5AM!");
+/// # Ok::<(), lagunedo::Refusal>(())
+/// ```
 ///
 /// # Errors
 ///

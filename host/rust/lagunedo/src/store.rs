@@ -45,6 +45,18 @@ pub struct Found {
 /// Looks at every slot of a store, and gives the lowest that is faulty or
 /// else the counts.
 ///
+/// ```
+/// use lagunedo::{check, Checked, Counts};
+///
+/// let mut store = vec![0; 3 * 2_112];
+/// let free = Counts { free: 3, ..Counts::default() };
+/// assert_eq!(check(&store), Ok(Checked::Sound(free)));
+///
+/// // A byte set in a slot whose sheet number is 0.
+/// store[2_112 + 100] = 1;
+/// assert_eq!(check(&store), Ok(Checked::Faulty(1)));
+/// ```
+///
 /// # Errors
 ///
 /// [`Refusal::STORE_LENGTH`].
@@ -73,6 +85,23 @@ pub fn check(store: &[u8]) -> Result<Checked, Refusal> {
 
 /// Writes the text of a sheet, in clear, to the front of the buffer `text`,
 /// whose other bytes are kept. 2,096 bytes are enough for every text.
+///
+/// ```
+/// use lagunedo::{add, read, Refusal};
+///
+/// let (old, new) = ([1; 48], [2; 48]);
+/// let mut store = vec![0; 2_112];
+/// add(&old, &new, &mut store, 305, b"PRESS 4 HOLD 5AM")?;
+///
+/// let mut text = [0xff; 20];
+/// let found = read(&old, &new, &store, 305, &mut text)?;
+/// assert_eq!((found.length, found.revision), (16, 1));
+/// assert_eq!(&text, b"PRESS 4 HOLD 5AM\xff\xff\xff\xff");
+///
+/// let short = read(&old, &new, &store, 305, &mut text[..15]);
+/// assert_eq!(short, Err(Refusal::BUFFER_LENGTH));
+/// # Ok::<(), Refusal>(())
+/// ```
 ///
 /// # Errors
 ///
@@ -117,6 +146,20 @@ pub fn read(
 /// Writes a new sheet with a text of 16 to 2,096 bytes, under the new key,
 /// into the lowest free slot, and gives its revision, 1.
 ///
+/// ```
+/// use lagunedo::{add, Refusal};
+///
+/// let (old, new) = ([1; 48], [2; 48]);
+/// let mut store = vec![0; 2_112];
+/// assert_eq!(add(&old, &new, &mut store, 305, b"PRESS 4 HOLD 5AM"), Ok(1));
+///
+/// // Made again it is refused, and so is another where no slot is free.
+/// let again = add(&old, &new, &mut store, 305, b"PRESS 4 HOLD 5AM");
+/// assert_eq!(again, Err(Refusal::TAKEN));
+/// let another = add(&old, &new, &mut store, 306, b"PRESS 1 AT SEVEN");
+/// assert_eq!(another, Err(Refusal::FULL));
+/// ```
+///
 /// # Errors
 ///
 /// In this order: [`Refusal::KEY_LENGTH`], [`Refusal::STORE_LENGTH`],
@@ -152,6 +195,20 @@ pub fn add(
 /// Replaces the whole text of a sheet of which the operator saw the revision
 /// `seen`; the new one, of 16 to 2,096 bytes, is under the new key. Gives the
 /// revision now stored, one higher.
+///
+/// ```
+/// use lagunedo::{add, revise, Refusal};
+///
+/// let (old, new) = ([1; 48], [2; 48]);
+/// let mut store = vec![0; 2_112];
+/// add(&old, &new, &mut store, 305, b"PRESS 4 HOLD 5AM")?;
+///
+/// // Two operators saw revision 1. The first is accepted, the second not.
+/// let first = revise(&old, &new, &mut store, 305, 1, b"PRESS 2 HOLD 6AM");
+/// let second = revise(&old, &new, &mut store, 305, 1, b"PRESS 3 HOLD 4AM");
+/// assert_eq!((first, second), (Ok(2), Err(Refusal::OTHER_REVISION)));
+/// # Ok::<(), Refusal>(())
+/// ```
 ///
 /// # Errors
 ///
@@ -189,6 +246,18 @@ pub fn revise(
 }
 
 /// Zeros the slot of a sheet, sound or not. The slot is then free.
+///
+/// ```
+/// use lagunedo::{add, remove, Refusal};
+///
+/// let (old, new) = ([1; 48], [2; 48]);
+/// let mut store = vec![0; 2_112];
+/// add(&old, &new, &mut store, 305, b"PRESS 4 HOLD 5AM")?;
+/// assert_eq!(remove(&mut store, 305), Ok(()));
+/// assert!(store.iter().all(|byte| *byte == 0));
+/// assert_eq!(remove(&mut store, 305), Err(Refusal::NOT_FOUND));
+/// # Ok::<(), Refusal>(())
+/// ```
 ///
 /// # Errors
 ///
