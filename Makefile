@@ -1,10 +1,11 @@
-# make        builds the library for C from its proved sources, and runs the example program over it
+# make        builds the library for C from its proved sources, and the desk program; runs the example program over it
 # make test   the whole gate: every proof, every edit that must fail, every program, and the host's tests
 # make bench  the benchmark (times depend on the machine; it is no test)
+# make install PREFIX=/usr/local  puts header, library, pkg-config file, desk and listing in place, after make
 .PHONY: all test bench libraries
 
 all: libraries
-	@$(MAKE) --no-print-directory host-example
+	@$(MAKE) --no-print-directory host-example $(HOST_OUT)/desk
 
 libraries:
 	@tools/need rt cc

@@ -1,6 +1,7 @@
 # The host side: the library's header, its tests in C and Rust, the example
-# and the benchmark. Included by the Makefile at the root, where every recipe
-# runs. All products go under target/.
+# and the benchmark; in desk.mk the desk program, and in install.mk what puts
+# all in place. Included by the Makefile at the root, where every recipe runs.
+# All products go under target/.
 
 # The folder of liblagunedo.a and libprobe.a. One named here instead has to be
 # an absolute path, since cargo runs its build scripts elsewhere.
@@ -29,10 +30,13 @@ host-rust:
 host-bench:
 	$(HOST_CARGO) run $(HOST_CARGO_FLAGS) --package bench
 
-# One program out of the files of its rooms.
-HOST_TESTS := $(wildcard host/c/test*.c)
+$(HOST_LIBRARY):
+	@echo "$@ is not there: make builds it" >&2; exit 1
 
-$(HOST_OUT)/test: $(HOST_TESTS) host/c/check.h host/c/lent.h $(HOST_HEADER) $(HOST_LIBRARY)
+# One program out of the files of its rooms.
+HOST_TESTS := $(wildcard host/c/test*.c) host/c/record.c
+
+$(HOST_OUT)/test: $(HOST_TESTS) host/c/check.h host/c/lent.h host/c/record.h $(HOST_HEADER) $(HOST_LIBRARY)
 	@mkdir -p $(HOST_OUT)
 	$(CC) $(HOST_CFLAGS) -Ihost/include -o $@ $(HOST_TESTS) $(HOST_LIBRARY)
 
@@ -44,3 +48,6 @@ $(HOST_OUT)/example: host/c/example.c $(HOST_HEADER) $(HOST_LIBRARY)
 $(HOST_OUT)/header.o: host/c/header.cpp $(HOST_HEADER)
 	@mkdir -p $(HOST_OUT)
 	$(CXX) $(HOST_CXXFLAGS) -Ihost/include -c -o $@ $<
+
+include host/desk.mk
+include host/install.mk

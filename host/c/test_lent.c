@@ -6,6 +6,7 @@
 #include <string.h>
 
 #include "lent.h"
+#include "record.h"
 
 struct room now, wanted;
 
@@ -53,23 +54,14 @@ uint8_t *slot_of(struct room *room, size_t slot)
     return room->bytes + STORE_AT + slot * LAGUNEDO_RECORD_SIZE;
 }
 
-static void put_number(uint8_t *bytes, uint32_t number, size_t length)
-{
-    size_t i;
-
-    for (i = 0; i < length; i++)
-        bytes[i] = (uint8_t)(number >> (8 * i));
-}
-
 void put_sheet(struct room *room, size_t slot, struct sheet sheet)
 {
     uint8_t *record = slot_of(room, slot);
+    struct lead lead = { sheet.number, sheet.revision, sheet.mark,
+                         (uint32_t)sheet.length };
 
-    memset(record, 0, 2112);
-    put_number(record, sheet.number, 4);
-    put_number(record + 4, sheet.revision, 2);
-    record[6] = sheet.mark;
-    put_number(record + 8, (uint32_t)sheet.length, 2);
+    memset(record, 0, LAGUNEDO_RECORD_SIZE);
+    lead_write(record, lead);
     fill(record + 16, sheet.length, sheet.seed);
     if (sheet.mark == LAGUNEDO_MARK_OLD_KEY)
         lagunedo_eme2_encipher(room->bytes + OLD_AT, lent_old, record, 16,

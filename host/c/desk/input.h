@@ -1,0 +1,45 @@
+/*
+ * Bytes that come from outside: a key, a text, a store.
+ *
+ * The library tests their lengths, so each is read into room for one byte
+ * more than it takes. Longer input fills that room and is refused for its
+ * length; nothing is cut to fit.
+ */
+
+#ifndef DESK_INPUT_H
+#define DESK_INPUT_H
+
+#include <stddef.h>
+#include <stdint.h>
+
+#include "lagunedo.h"
+
+enum {
+    KEY_ROOM = 64 + 1,
+    TEXT_ROOM = LAGUNEDO_TEXT_MOST + 1,
+    STORE_ROOM = LAGUNEDO_SLOT_LIMIT * LAGUNEDO_RECORD_SIZE + 1
+};
+
+struct key {
+    size_t length;
+    uint8_t bytes[KEY_ROOM];
+};
+
+struct text {
+    size_t length;
+    uint8_t bytes[TEXT_ROOM];
+};
+
+/*
+ * Reads until the input ends or the room is full. Gives 0 and the number of
+ * bytes, or -1 with errno set.
+ */
+int bytes_read(int input, uint8_t *bytes, size_t room, size_t *length);
+
+/* The key in the file; a status. */
+int key_read(const char *file, struct key *key);
+
+/* The text on standard input, every byte of it; a status. */
+int text_read(struct text *text);
+
+#endif

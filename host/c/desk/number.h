@@ -1,0 +1,16 @@
+/*
+ * Numbers on the command line.
+ */
+
+#ifndef DESK_NUMBER_H
+#define DESK_NUMBER_H
+
+#include <stdint.h>
+
+/*
+ * Whether the word is a decimal number of at most 32 bits, and nothing else:
+ * no sign, no blank. Only then is the number written.
+ */
+int number_read(const char *word, uint32_t *number);
+
+#endif

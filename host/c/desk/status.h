@@ -1,0 +1,25 @@
+/*
+ * How a run of desk ends: 0, the number of the library's refusal, or one of
+ * the statuses from 100 up, which are desk's own.
+ */
+
+#ifndef DESK_STATUS_H
+#define DESK_STATUS_H
+
+enum desk_status {
+    DESK_DONE = 0,
+    DESK_FAULTY = 100,
+    DESK_DAMAGED = 101,
+    DESK_USAGE = 102,
+    DESK_IN_USE = 103,
+    DESK_FILE = 104,
+    DESK_UNCONFIRMED = 105,
+    DESK_EXISTS = 106
+};
+
+const char *status_meaning(int status);
+
+/* A line on standard output for each status, with what it means. */
+void status_list(void);
+
+#endif

@@ -1,0 +1,60 @@
+# The rekeying job: by one copy and by several, over every mark, free and damaged slots, again, and with a terminal.
+
+# Slots: in clear, old key, free, new key, old key.
+record clear1 305 2 0 hold
+record old2 306 7 1 blue old.key
+record new4 308 1 2 dry new.key
+record old5 309 65535 1 longest old.key
+record to1 305 2 2 hold new.key
+record to2 306 7 2 blue new.key
+record to5 309 65535 2 longest new.key
+cat clear1 old2 free new4 old5 >mixed
+
+cp mixed one
+gives 0 rekey one $keys
+prints "copy 1 converted 3 already 1 free 1 damaged 0"
+check "no bar where there is no terminal" [ ! -s err ]
+holds one to1 to2 free new4 to5
+gives 0 check one
+prints "used 4 free 1 clear 0 old 0 new 4"
+
+# In turn, the first copy is always first at a slot.
+cp mixed three
+gives 0 rekey three $keys --copies 3
+prints "copy 1 converted 3 already 1 free 1 damaged 0
+copy 2 converted 0 already 4 free 1 damaged 0
+copy 3 converted 0 already 4 free 1 damaged 0"
+holds three to1 to2 free new4 to5
+cp mixed many
+gives 0 rekey many $keys --copies 64
+check "a line for each copy" [ "$(grep -c . out)" = 64 ]
+holds many to1 to2 free new4 to5
+
+# Once more: nothing is to be done, and the file is left alone.
+note one
+gives 0 rekey one $keys
+prints "copy 1 converted 0 already 4 free 1 damaged 0"
+kept one
+gives 0 rekey empty.store $keys
+prints "copy 1 converted 0 already 0 free 0 damaged 0"
+
+# 101: damaged slots are named and kept, and the others are converted.
+cat clear1 unsound old2 >damaged
+gives 101 rekey damaged $keys --copies 2
+prints "copy 1 converted 2 already 0 free 0 damaged 1
+copy 2 converted 0 already 2 free 0 damaged 1"
+says "slot 1, sheet 305, is damaged and was kept as it was"
+holds damaged to1 unsound to2
+cp unsound alone
+note alone
+gives 101 rekey alone $keys
+kept alone
+
+# On a terminal there is a bar, up to the end. script(1) lends one where it can.
+if script -qec true /dev/null </dev/null >/dev/null 2>&1; then
+    cp mixed shown
+    script -qec "'$desk' rekey shown $keys" /dev/null </dev/null >seen
+    check "the bar on a terminal begins" grep -q '\[##########  ' seen
+    check "the bar on a terminal ends" grep -q '\[##########*\] 100%' seen
+    holds shown to1 to2 free new4 to5
+fi

@@ -1,0 +1,122 @@
+# The statuses from 100 up, but for those that rekey.sh and locks.sh meet; and the help.
+
+# 100: each kind of fault. Nothing else is printed, whatever good slots stand before it.
+record two305 305 3 2 blue new.key
+record nothing 0 1 0 /dev/null
+for files in "unsound" "nothing" "hold305 blue306 two305" "free hold305 nothing"; do
+    set -- $files
+    cat "$@" >faulty
+    for command in check list; do
+        note faulty
+        gives 100 "$command" faulty
+        prints "fault at $(($# - 1))"
+        says "slot $(($# - 1)) is unsound or repeats a lower slot's sheet number"
+        kept faulty
+    done
+done
+
+# 102: each way to be misunderstood. No file is made or touched.
+note store
+wrong() { # WORDS..
+    gives 102 "$@"
+    says "--help tells how"
+    check "nothing is printed" [ ! -s out ]
+}
+wrong
+wrong ""
+wrong store
+wrong erase store
+wrong check
+wrong check store 305
+wrong new store
+wrong new none -1
+wrong new none 1x
+wrong new none ""
+wrong new none " 1"
+wrong new none 0x10
+wrong new none 4294967296
+wrong new none 99999999999999999999
+wrong add store $keys
+wrong add store 305
+wrong add store 305 --old-key old.key
+wrong add store 305 --new-key new.key
+wrong add store 305 --key new.key $keys
+wrong add store 305 $keys --new-key new.key
+wrong add store 305 --key
+wrong read store 305 306 $keys
+wrong read store +305 $keys
+wrong revise store 305 $keys
+wrong revise store 305 1 2 $keys
+wrong remove store 305 $keys
+wrong remove store 305 --force
+wrong check store -v
+wrong check store --wait
+wrong list store --copies 2
+wrong rekey store $keys --copies 0
+wrong rekey store $keys --copies 65
+wrong rekey store $keys --copies many
+kept store
+check "no store is made by wrong usage" [ ! -e none ]
+
+# 104: files that are not there, or are no files; the lock is not made either.
+gives 104 check absent
+says "absent: No such file or directory"
+gives 104 add absent 305 $keys <blue
+gives 104 check ""
+gives 104 new "" 3
+gives 104 new none/store 3
+gives 104 new none/ 3
+gives 104 add store 400 --key none.key <blue
+says "none.key: "
+gives 104 add store 400 --key . <blue
+gives 104 check .
+says ".: not a regular file"
+gives 104 remove . 305
+gives 104 check /
+gives 104 new "$(bytes 247)" 3
+mkdir store.desk-new
+gives 104 remove store 306
+rmdir store.desk-new
+check "no lock is made for no store" [ ! -e absent.desk-lock ]
+
+# A file that cannot be written to its end: the limit of 2,048 bytes stands for a full disk.
+(trap '' XFSZ && ulimit -f 4 && exec "$desk" remove store 306 >out 2>err)
+check "remove with a limit on files ends with 104" [ $? -eq 104 ]
+says "store.desk-new: "
+check "what was half written is gone" [ ! -e store.desk-new ]
+
+# A stream that is closed is not mistaken for a file that is opened next.
+"$desk" add store 400 $keys <&- >out 2>err
+check "add without standard input ends with 104" [ $? -eq 104 ]
+"$desk" add store 400 $keys <blue >&- 2>err
+check "add without standard output ends with 104" [ $? -eq 104 ]
+"$desk" add store 400 $keys <blue >out 2>&-
+check "add without standard error ends with 104" [ $? -eq 104 ]
+kept store
+
+# 105: the store was changed, but the answer did not get out.
+"$desk" add store 400 $keys <blue >/dev/full 2>err
+check "add to a full device ends with 105" [ $? -eq 105 ]
+record blue400 400 1 2 blue new.key
+holds store hold4294967295 dry306 blue400
+# Where nothing was changed, it is a file that could not be written.
+"$desk" read store 400 $keys >/dev/full 2>err
+check "read to a full device ends with 104" [ $? -eq 104 ]
+
+# 106
+note store
+gives 106 new store 3
+says "store: there is a file of that name already"
+kept store
+gives 106 new . 3
+
+# The help names every command, option and status, and goes to standard output.
+gives 0 --help
+check "help says nothing on standard error" [ ! -s err ]
+for word in new check list add read revise remove rekey --old-key --new-key --key --copies --wait; do
+    check "help tells of $word" grep -q -e "^  $word " out
+done
+for status in 0 1 2 3 4 5 6 7 8 9 10 11 12 13 14 100 101 102 103 104 105 106; do
+    check "help tells of status $status" grep -q "^ *$status  " out
+done
+gives 0 add --help

@@ -1,0 +1,22 @@
+/*
+ * The lead of a record, as 01 tables it. Only record.c knows at which byte a
+ * field stands.
+ */
+
+#ifndef RECORD_H
+#define RECORD_H
+
+#include <stdint.h>
+
+struct lead {
+    uint32_t sheet, revision;
+    uint8_t mark;
+    uint32_t length;
+};
+
+struct lead lead_read(const uint8_t *record);
+
+/* Writes all 16 bytes of the lead. */
+void lead_write(uint8_t *record, struct lead lead);
+
+#endif
