@@ -1,8 +1,9 @@
 # make        builds the library for C from its proved sources, and the desk program; runs the example program over it
 # make test   the whole gate: every proof, every edit that must fail, every program, and the host's tests
 # make bench  the benchmark (times depend on the machine; it is no test)
+# make peers  the benchmark beside other people's AES, written into docs/SPEED.md and docs/speed.svg
 # make install PREFIX=/usr/local  puts header, library, pkg-config file, desk and listing in place, after make
-.PHONY: all test bench libraries
+.PHONY: all test bench peers libraries probe
 
 all: libraries
 	@$(MAKE) --no-print-directory host-example $(HOST_OUT)/desk
@@ -14,9 +15,14 @@ libraries:
 test:
 	@tools/gate
 
-bench: libraries
-	@tools/need cargo
+probe: libraries
 	@tools/quiet rt staticlib probe
+
+bench: probe
+	@tools/need cargo
 	@$(MAKE) --no-print-directory host-bench
+
+peers: probe
+	@$(MAKE) --no-print-directory host-peers
 
 include host/host.mk

@@ -34,9 +34,10 @@ $(HOST_LIBRARY):
 	@echo "$@ is not there: make builds it" >&2; exit 1
 
 # One program out of the files of its rooms.
-HOST_TESTS := $(wildcard host/c/test*.c) host/c/record.c
+HOST_TESTS := $(wildcard host/c/test*.c) host/c/fill.c host/c/record.c
+HOST_TEST_HEADERS := $(addprefix host/c/,check.h fill.h lent.h record.h)
 
-$(HOST_OUT)/test: $(HOST_TESTS) host/c/check.h host/c/lent.h host/c/record.h $(HOST_HEADER) $(HOST_LIBRARY)
+$(HOST_OUT)/test: $(HOST_TESTS) $(HOST_TEST_HEADERS) $(HOST_HEADER) $(HOST_LIBRARY)
 	@mkdir -p $(HOST_OUT)
 	$(CC) $(HOST_CFLAGS) -Ihost/include -o $@ $(HOST_TESTS) $(HOST_LIBRARY)
 
@@ -51,3 +52,4 @@ $(HOST_OUT)/header.o: host/c/header.cpp $(HOST_HEADER)
 
 include host/desk.mk
 include host/install.mk
+include host/peers/peers.mk

@@ -8,6 +8,8 @@
 #include <stddef.h>
 #include <stdint.h>
 
+#include "fill.h"
+
 enum { ENCIPHER, DECIPHER, DIRECTIONS };
 
 /*
@@ -22,9 +24,6 @@ int opposite(int direction);
 
 /* Counts one check, and gives back whether it holds. */
 int counted(int holds);
-
-/* Bytes without a pattern that a cipher or a stray write would repeat. */
-void fill(uint8_t *bytes, size_t length, uint32_t seed);
 
 /* The bytes that a string of hexadecimal digits names, and their number. */
 size_t from_hex(const char *hex, uint8_t *bytes);
