@@ -15,7 +15,7 @@ HOST_CXXFLAGS := -std=c++11 -O2 -Wall -Wextra -Werror
 HOST_CARGO := CARGO_TARGET_DIR=target/cargo cargo
 HOST_CARGO_FLAGS := --release --offline --locked --manifest-path host/rust/Cargo.toml
 
-.PHONY: host-c host-example host-rust host-bench
+.PHONY: host-c host-example host-rust host-trace host-bench
 
 host-c: $(HOST_OUT)/test $(HOST_OUT)/header.o
 	$(HOST_OUT)/test
@@ -26,6 +26,11 @@ host-example: $(HOST_OUT)/example
 # The archives are rebuilt by the proof tool; cargo looks at them itself.
 host-rust:
 	$(HOST_CARGO) test $(HOST_CARGO_FLAGS)
+
+# One random trace of the store again: LAGUNEDO_TRACE is the seed that it
+# printed when it failed.
+host-trace:
+	$(HOST_CARGO) test $(HOST_CARGO_FLAGS) --package lagunedo --test traces alone -- --ignored
 
 host-bench:
 	$(HOST_CARGO) run $(HOST_CARGO_FLAGS) --package bench

@@ -36,6 +36,31 @@ impl Random {
         self.fill(&mut bytes);
         bytes
     }
+
+    /// A number below another, which is not 0.
+    pub fn below(&mut self, n: usize) -> usize {
+        (self.word() % n as u64) as usize
+    }
+
+    /// True once in so many times.
+    pub fn one_in(&mut self, n: usize) -> bool {
+        self.below(n) == 0
+    }
+
+    /// One of the items, of which there is at least one.
+    pub fn pick<T: Copy>(&mut self, from: &[T]) -> T {
+        from[self.below(from.len())]
+    }
+
+    /// So many of the items, each at most once, in any order.
+    pub fn some_of<T>(&mut self, mut items: Vec<T>, count: usize) -> Vec<T> {
+        for k in 0..count {
+            let other = k + self.below(items.len() - k);
+            items.swap(k, other);
+        }
+        items.truncate(count);
+        items
+    }
 }
 
 #[cfg(test)]
@@ -49,5 +74,36 @@ mod tests {
         assert_eq!(random.word(), 0xe220_a839_7b1d_cdaf);
         assert_eq!(random.word(), 0x6e78_9e6a_a1b9_65f4);
         assert_eq!(random.word(), 0x06c4_5d18_8009_454f);
+    }
+
+    /// Every choice comes about, and none but those asked for.
+    #[test]
+    fn choices() {
+        let mut random = Random::new(0);
+        let mut met = [0; 5];
+        (0..500).for_each(|_| met[random.below(5)] += 1);
+        assert!(met.iter().all(|n| *n > 50), "{met:?}");
+        let often = (0..500).filter(|_| random.one_in(5)).count();
+        assert!((50..200).contains(&often), "{often}");
+        let picked: Vec<u8> = (0..50).map(|_| random.pick(&[3, 7])).collect();
+        assert!(picked.contains(&3) && picked.contains(&7));
+        assert!(picked.iter().all(|n| [3, 7].contains(n)));
+    }
+
+    /// None of the items twice, and each of them at each place.
+    #[test]
+    fn some() {
+        let mut random = Random::new(0);
+        let mut met = [[0; 4]; 2];
+        for _ in 0..200 {
+            let two = random.some_of(vec![0, 1, 2, 3], 2);
+            assert_eq!(two.len(), 2);
+            assert_ne!(two[0], two[1]);
+            met[0][two[0]] += 1;
+            met[1][two[1]] += 1;
+        }
+        assert!(met.iter().flatten().all(|n| *n > 20), "{met:?}");
+        assert_eq!(random.some_of(vec![5], 1), [5]);
+        assert!(random.some_of(vec![5], 0).is_empty());
     }
 }

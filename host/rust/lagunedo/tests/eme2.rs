@@ -125,8 +125,8 @@ fn random() {
     for n in 0..RANDOM as u64 / 2 {
         let seed = SEED + 30_000 + n;
         let mut random = Random::new(!seed);
-        let mut below = |n: u64| (random.word() % n) as usize;
-        let lengths = [KEY_LENGTHS[below(2)], below(200), 16 + below(300)];
+        let key_length = random.pick(&KEY_LENGTHS);
+        let lengths = [key_length, random.below(200), 16 + random.below(300)];
         compared += compare_lengths(lengths, seed);
     }
     assert_eq!(compared, RANDOM);

@@ -47,12 +47,12 @@ impl Tally {
             words: [0; 6],
         };
         for n in 0..CALLS {
-            if kind == Kind::Damaged && draw.one_in(16) {
+            if kind == Kind::Damaged && draw.random.one_in(16) {
                 draw.damage(&mut memory.store);
             }
             let call = draw.call(&mut memory);
             let name = || format!("seed {seed:#x}, {kind:?}, {slots} slots, call {n}");
-            let (number, after) = agree(&call, &memory, draw.below(256), &name);
+            let (number, after) = agree(&call, &memory, draw.random.below(256), &name);
             if number != 0 && number != FAULTY {
                 assert!(after == memory, "{}: refused and changed", name());
             }

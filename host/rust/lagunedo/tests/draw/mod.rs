@@ -24,7 +24,7 @@ const FAR: [u64; 7] = [
 
 /// A source of random choices, and the two keys of a trace.
 pub struct Draw {
-    random: Random,
+    pub random: Random,
     keys: [Vec<u8>; 2],
 }
 
@@ -38,21 +38,8 @@ impl Draw {
         draw
     }
 
-    /// A number below another.
-    pub fn below(&mut self, n: usize) -> usize {
-        (self.random.word() % n as u64) as usize
-    }
-
-    pub fn one_in(&mut self, n: usize) -> bool {
-        self.below(n) == 0
-    }
-
-    fn pick<T: Copy>(&mut self, from: &[T]) -> T {
-        from[self.below(from.len())]
-    }
-
     fn key(&mut self) -> Vec<u8> {
-        let length = self.pick(&[48, 64]);
+        let length = self.random.pick(&[48, 64]);
         self.random.bytes(length)
     }
 
@@ -60,7 +47,7 @@ impl Draw {
     /// before it is mostly kept.
     pub fn call(&mut self, memory: &mut Memory) -> Call {
         use What::{Add, Check, Read, Remove, Revise, Step};
-        let what = self.pick(&[
+        let what = self.random.pick(&[
             Check, Read, Read, Read, Add, Add, Add, Revise, Revise, Revise, Remove, Step, Step,
             Step,
         ]);
@@ -76,7 +63,7 @@ impl Draw {
         memory.text = self.random.bytes(length);
         let slots = memory.store.len() / RECORD;
         let done = memory.place >= slots as u64;
-        if self.one_in(if done { 2 } else { 8 }) {
+        if self.random.one_in(if done { 2 } else { 8 }) {
             memory.place = self.place(slots);
         }
         let seen = self.seen(revision as u32);
@@ -104,14 +91,18 @@ impl Draw {
     /// Mostly the trace's keys; or exchanged, or others, or of a wrong length.
     fn call_keys(&mut self) -> [Vec<u8>; 2] {
         let mut keys = self.keys.clone();
-        match self.below(32) {
+        match self.random.below(32) {
             0 => keys.reverse(),
-            1 => keys[self.below(2)] = self.key(),
+            1 => keys[self.random.below(2)] = self.key(),
             2 | 3 => {
-                let length = self.pick(&WRONG_KEYS);
-                keys[self.below(2)] = self.random.bytes(length);
+                let length = self.random.pick(&WRONG_KEYS);
+                keys[self.random.below(2)] = self.random.bytes(length);
             }
-            4 => keys = [(); 2].map(|()| self.pick(&WRONG_KEYS)).map(|n| vec![0; n]),
+            4 => {
+                keys = [(); 2]
+                    .map(|()| self.random.pick(&WRONG_KEYS))
+                    .map(|n| vec![0; n])
+            }
             _ => (),
         }
         keys
@@ -122,48 +113,48 @@ impl Draw {
         let slots = store.chunks_exact(RECORD);
         let numbers = slots.map(|slot| u32::from_le_bytes([slot[0], slot[1], slot[2], slot[3]]));
         let used: Vec<u32> = numbers.filter(|number| *number != 0).collect();
-        if used.is_empty() || self.one_in(4) != (what == What::Add) {
-            return self.pick(&stores::SHEETS);
+        if used.is_empty() || self.random.one_in(4) != (what == What::Add) {
+            return self.random.pick(&stores::SHEETS);
         }
-        self.pick(&used)
+        self.random.pick(&used)
     }
 
     fn text_length(&mut self) -> usize {
-        match self.below(32) {
-            0 => 2_095 + self.below(3),
-            1 => self.below(300),
+        match self.random.below(32) {
+            0 => 2_095 + self.random.below(3),
+            1 => self.random.below(300),
             2 => 15,
-            _ => 15 + self.below(26),
+            _ => 15 + self.random.below(26),
         }
     }
 
     /// Around the length of the text to be read.
     fn buffer_length(&mut self, length: usize) -> usize {
-        match self.below(8) {
+        match self.random.below(8) {
             0 => length.saturating_sub(1),
             1 | 2 => length,
             3 => length + 1,
-            4 => self.below(60),
+            4 => self.random.below(60),
             _ => 2_096,
         }
     }
 
     /// Mostly the stored revision.
     fn seen(&mut self, revision: u32) -> u32 {
-        match self.below(12) {
+        match self.random.below(12) {
             0 => revision + 1,
             1 => revision.wrapping_sub(1),
             2 => revision + 0x1_0000,
-            3 => self.pick(&[0, 1, 65_535, 65_536, u32::MAX]),
+            3 => self.random.pick(&[0, 1, 65_535, 65_536, u32::MAX]),
             _ => revision,
         }
     }
 
     fn place(&mut self, slots: usize) -> u64 {
-        match self.below(4) {
-            0 => self.pick(&FAR),
+        match self.random.below(4) {
+            0 => self.random.pick(&FAR),
             1 => slots as u64,
-            _ => self.below(slots + 2) as u64,
+            _ => self.random.below(slots + 2) as u64,
         }
     }
 }

@@ -46,11 +46,11 @@ impl Draw {
     /// A store of so many slots, some of them free.
     pub fn store(&mut self, kind: Kind, slots: usize) -> Vec<u8> {
         let numbers = self.numbers(kind, slots);
-        let free = self.pick(&[2, 4, 1_000]);
+        let free = self.random.pick(&[2, 4, 1_000]);
         let mut store = Vec::new();
         for number in numbers {
             let slot = match kind {
-                _ if self.one_in(free) => vec![0; RECORD],
+                _ if self.random.one_in(free) => vec![0; RECORD],
                 Kind::Random => self.senseless(number),
                 Kind::Fields => self.fields(number),
                 _ => self.sound(number),
@@ -58,7 +58,7 @@ impl Draw {
             store.extend(slot);
         }
         match kind {
-            Kind::Damaged => (0..=self.below(4)).for_each(|_| self.damage(&mut store)),
+            Kind::Damaged => (0..=self.random.below(4)).for_each(|_| self.damage(&mut store)),
             Kind::NotWhole => self.cut(&mut store),
             _ => (),
         }
@@ -70,18 +70,18 @@ impl Draw {
         if store.is_empty() {
             return;
         }
-        let at = self.below(store.len());
-        let at = if self.one_in(2) {
+        let at = self.random.below(store.len());
+        let at = if self.random.one_in(2) {
             at
         } else {
             at - at % RECORD + at % 16
         };
         if let Some(byte) = store.get_mut(at) {
-            *byte = match self.below(4) {
+            *byte = match self.random.below(4) {
                 0 => 0,
                 1 => *byte ^ 1,
                 2 => *byte ^ 0x80,
-                _ => self.below(256) as u8,
+                _ => self.random.below(256) as u8,
             };
         }
     }
@@ -90,19 +90,14 @@ impl Draw {
     fn numbers(&mut self, kind: Kind, slots: usize) -> Vec<u32> {
         let used = &SHEETS[1..];
         if kind == Kind::Repeated {
-            return (0..slots).map(|_| self.pick(&used[..3])).collect();
+            return (0..slots).map(|_| self.random.pick(&used[..3])).collect();
         }
-        let mut numbers = if slots <= used.len() {
+        let numbers = if slots <= used.len() {
             used.to_vec()
         } else {
             (1..).take(slots).collect()
         };
-        for k in 0..slots {
-            let other = k + self.below(numbers.len() - k);
-            numbers.swap(k, other);
-        }
-        numbers.truncate(slots);
-        numbers
+        self.random.some_of(numbers, slots)
     }
 
     /// A slot from its fields. Under a key any bytes are the encipherment of
@@ -120,33 +115,35 @@ impl Draw {
     }
 
     fn sound(&mut self, number: u32) -> Vec<u8> {
-        let revision = match self.below(8) {
+        let revision = match self.random.below(8) {
             0 => 65_535,
             1 => 65_534,
-            2 => 1 + self.below(65_535) as u16,
-            _ => 1 + self.below(3) as u16,
+            2 => 1 + self.random.below(65_535) as u16,
+            _ => 1 + self.random.below(3) as u16,
         };
-        let length = match self.below(32) {
+        let length = match self.random.below(32) {
             0 => 2_096,
             1 => 2_095,
-            2 => 16 + self.below(300) as u16,
-            _ => 16 + self.below(25) as u16,
+            2 => 16 + self.random.below(300) as u16,
+            _ => 16 + self.random.below(25) as u16,
         };
-        let mark = self.below(3) as u8;
+        let mark = self.random.below(3) as u8;
         self.slot(number, (revision, mark, length))
     }
 
     fn fields(&mut self, number: u32) -> Vec<u8> {
-        let revision = self.pick(&[0, 1, 1, 2, 256, 65_534, 65_535]);
-        let mark = self.pick(&[0, 0, 1, 1, 2, 2, 3, 255]);
-        let length = self.pick(&[0, 15, 16, 16, 17, 31, 32, 33, 40, 48, 2_097, 65_535]);
+        let revision = self.random.pick(&[0, 1, 1, 2, 256, 65_534, 65_535]);
+        let mark = self.random.pick(&[0, 0, 1, 1, 2, 2, 3, 255]);
+        let length = self
+            .random
+            .pick(&[0, 15, 16, 16, 17, 31, 32, 33, 40, 48, 2_097, 65_535]);
         let mut slot = self.slot(number, (revision, mark, length));
-        if self.one_in(4) {
-            let at = self.pick(&[7, 10, 11, 12, 13, 14, 15]);
-            slot[at] = 1 << self.below(8);
+        if self.random.one_in(4) {
+            let at = self.random.pick(&[7, 10, 11, 12, 13, 14, 15]);
+            slot[at] = 1 << self.random.below(8);
         }
-        if self.one_in(8) {
-            let at = self.pick(&[32, 48, 64, RECORD - 1]);
+        if self.random.one_in(8) {
+            let at = self.random.pick(&[32, 48, 64, RECORD - 1]);
             slot[at] ^= 1;
         }
         slot
@@ -154,16 +151,16 @@ impl Draw {
 
     fn senseless(&mut self, number: u32) -> Vec<u8> {
         let mut slot = self.random.bytes(RECORD);
-        if !self.one_in(4) {
+        if !self.random.one_in(4) {
             slot[..4].copy_from_slice(&number.to_le_bytes());
         }
         slot
     }
 
     fn cut(&mut self, store: &mut Vec<u8>) {
-        let by = self.pick(&[1, 2, 16, 64, RECORD - 1]);
+        let by = self.random.pick(&[1, 2, 16, 64, RECORD - 1]);
         let length = match store.len().checked_sub(by) {
-            Some(shorter) if self.one_in(2) => shorter,
+            Some(shorter) if self.random.one_in(2) => shorter,
             _ => store.len() + by,
         };
         store.resize(length, 0);

@@ -1,0 +1,113 @@
+//! The plain list of demand 3, from 01 alone: a place for each slot, which
+//! holds nothing or a sheet number, a revision and a text in clear. It has no
+//! keys and no marks, and a step of the job does nothing to it.
+//!
+//! Each call tests what 01's order for it has, but for what needs a key or a
+//! store of a wrong length or an unsound slot (1, 4, 12, 14).
+
+use lagunedo::{Found, Refusal};
+
+/// The revision after which there is none.
+const LAST_REVISION: u32 = 65_535;
+
+/// Lengths of a text.
+pub const SHORTEST: usize = 16;
+pub const LONGEST: usize = 2_096;
+
+#[derive(Clone, Debug, Eq, PartialEq)]
+pub struct Sheet {
+    pub number: u32,
+    pub revision: u32,
+    pub text: Vec<u8>,
+}
+
+#[derive(Clone, Debug, Eq, PartialEq)]
+pub struct List {
+    pub places: Vec<Option<Sheet>>,
+}
+
+/// What an accepted call did to the list.
+#[derive(Clone, Copy, Debug, Eq, PartialEq)]
+pub struct Change {
+    pub place: usize,
+    /// 01: "Add and revise answer the revision now stored; remove answers 0."
+    pub answer: u32,
+}
+
+impl List {
+    pub fn read(&self, number: u32, buffer: &mut [u8]) -> Result<Found, Refusal> {
+        asked(number)?;
+        let (_, sheet) = self.found(number).ok_or(Refusal::NOT_FOUND)?;
+        let front = buffer.get_mut(..sheet.text.len());
+        let front = front.ok_or(Refusal::BUFFER_LENGTH)?;
+        front.copy_from_slice(&sheet.text);
+        Ok(Found {
+            length: sheet.text.len() as u32,
+            revision: sheet.revision,
+        })
+    }
+
+    pub fn add(&mut self, number: u32, text: &[u8]) -> Result<Change, Refusal> {
+        asked(number)?;
+        fits(text)?;
+        if self.found(number).is_some() {
+            return Err(Refusal::TAKEN);
+        }
+        let lowest = self.places.iter().position(Option::is_none);
+        let place = lowest.ok_or(Refusal::FULL)?;
+        Ok(self.put(place, number, 1, text))
+    }
+
+    pub fn revise(&mut self, number: u32, seen: u32, text: &[u8]) -> Result<Change, Refusal> {
+        asked(number)?;
+        fits(text)?;
+        let (place, sheet) = self.found(number).ok_or(Refusal::NOT_FOUND)?;
+        if sheet.revision != seen {
+            return Err(Refusal::OTHER_REVISION);
+        }
+        if sheet.revision == LAST_REVISION {
+            return Err(Refusal::LAST_REVISION);
+        }
+        Ok(self.put(place, number, seen + 1, text))
+    }
+
+    pub fn remove(&mut self, number: u32) -> Result<Change, Refusal> {
+        asked(number)?;
+        let (place, _) = self.found(number).ok_or(Refusal::NOT_FOUND)?;
+        self.places[place] = None;
+        Ok(Change { place, answer: 0 })
+    }
+
+    /// The lowest place with the number, and what it holds.
+    pub fn found(&self, number: u32) -> Option<(usize, &Sheet)> {
+        let places = self.places.iter().enumerate();
+        let mut sheets = places.filter_map(|(place, sheet)| Some((place, sheet.as_ref()?)));
+        sheets.find(|(_, sheet)| sheet.number == number)
+    }
+
+    fn put(&mut self, place: usize, number: u32, revision: u32, text: &[u8]) -> Change {
+        self.places[place] = Some(Sheet {
+            number,
+            revision,
+            text: text.to_vec(),
+        });
+        Change {
+            place,
+            answer: revision,
+        }
+    }
+}
+
+fn asked(number: u32) -> Result<(), Refusal> {
+    if number == 0 {
+        return Err(Refusal::SHEET_ZERO);
+    }
+    Ok(())
+}
+
+fn fits(text: &[u8]) -> Result<(), Refusal> {
+    if !(SHORTEST..=LONGEST).contains(&text.len()) {
+        return Err(Refusal::TEXT_LENGTH);
+    }
+    Ok(())
+}
