@@ -1,9 +1,10 @@
 # make        builds the library for C from its proved sources, and the desk program; runs the example program over it
 # make test   the whole gate: every proof, every edit that must fail, every program, and the host's tests
 # make bench  the benchmark (times depend on the machine; it is no test)
+# make fuzz   the fuzz target under libFuzzer, FUZZ_RUNS scripts of calls (host/fuzz/fuzz.mk)
 # make peers  the benchmark beside other people's AES, written into docs/SPEED.md and docs/speed.svg
 # make install PREFIX=/usr/local  puts header, library, pkg-config file, desk and listing in place, after make
-.PHONY: all test bench peers libraries probe
+.PHONY: all test bench fuzz peers libraries probe
 
 all: libraries
 	@$(MAKE) --no-print-directory host-example $(HOST_OUT)/desk
@@ -24,5 +25,9 @@ bench: probe
 
 peers: probe
 	@$(MAKE) --no-print-directory host-peers
+
+fuzz: libraries
+	@tools/need clang libfuzzer
+	@$(MAKE) --no-print-directory host-libfuzzer
 
 include host/host.mk

@@ -1,6 +1,6 @@
 # The host side: the library's header, its tests in C and Rust, the example
-# and the benchmark; in desk.mk the desk program, and in install.mk what puts
-# all in place. Included by the Makefile at the root, where every recipe runs.
+# and the benchmark; the other rooms of host/ have files of their own, which
+# are included below. Included by the Makefile at the root, where every recipe runs.
 # All products go under target/.
 
 # The folder of liblagunedo.a and libprobe.a. One named here instead has to be
@@ -57,4 +57,5 @@ $(HOST_OUT)/header.o: host/c/header.cpp $(HOST_HEADER)
 
 include host/desk.mk
 include host/install.mk
+include host/fuzz/fuzz.mk
 include host/peers/peers.mk

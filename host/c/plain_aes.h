@@ -1,7 +1,7 @@
 /*
- * A plain byte-table AES in C, the peer that the library is measured against.
- * It is no part of the library and makes no claim beyond giving the same
- * bytes.
+ * A plain byte-table AES in C: the peer that the library is measured against,
+ * and what the fuzz target's model enciphers with. It is no part of the
+ * library and makes no claim beyond giving the same bytes.
  */
 
 #ifndef PLAIN_AES_H
