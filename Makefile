@@ -1,17 +1,21 @@
-# make        builds the library for C from its proved sources, and the desk program; runs the example program over it
+# make        builds the library for C and the listing program from their proved sources, and the desk; runs the listing on 01's example
 # make test   the whole gate: every proof, every edit that must fail, every program, and the host's tests
 # make bench  the benchmark (times depend on the machine; it is no test)
 # make fuzz   the fuzz target under libFuzzer, FUZZ_RUNS scripts of calls (host/fuzz/fuzz.mk)
 # make peers  the benchmark beside other people's AES, written into docs/SPEED.md and docs/speed.svg
 # make install PREFIX=/usr/local  puts header, library, pkg-config file, desk and listing in place, after make
-.PHONY: all test bench fuzz peers libraries probe
+.PHONY: all test bench fuzz peers libraries listing probe
 
-all: libraries
-	@$(MAKE) --no-print-directory host-example $(HOST_OUT)/desk
+all: libraries listing
+	@$(MAKE) --no-print-directory $(HOST_OUT)/desk host-example
+	$(LAGUNEDO_LISTING) <crates/listing/stdin
 
 libraries:
 	@tools/need rt cc
 	@tools/quiet rt staticlib lagunedo
+
+listing:
+	@tools/quiet rt check listing
 
 test:
 	@tools/gate

@@ -1,7 +1,7 @@
-//! AES, EME2-AES and the sheet store written a second time, from FIPS 197,
-//! source document 000 and 01 alone, so that the proved library can be
-//! compared with something that shares no line with it. It is clear before it
-//! is fast.
+//! AES, EME2-AES, the sheet store and its listing written a second time, from
+//! FIPS 197, source document 000 and 01 alone, so that the proved library can
+//! be compared with something that shares no line with it. It is clear before
+//! it is fast.
 //!
 //! - `numbers`: what is returned in place of a result (01)
 //! - `field`: the bytes as a field (FIPS 197, section 4)
@@ -12,12 +12,14 @@
 //! - `record`: one slot of the store, its fields and its text (01, the store)
 //! - `store`: check, read, add, revise, remove
 //! - `step`: one step of the rekeying job
+//! - `listing`: what the listing program prints
 
 #![forbid(unsafe_code)]
 
 mod cipher;
 mod eme2;
 mod field;
+mod listing;
 mod numbers;
 mod record;
 mod schedule;
@@ -26,6 +28,7 @@ mod store;
 mod substitution;
 
 pub use eme2::{double, eme2, wide};
+pub use listing::listing;
 pub use numbers::{
     ASSOCIATED_LENGTH, BLOCK_LENGTH, BUFFER_LENGTH, FULL, KEY_LENGTH, LAST_REVISION,
     MESSAGE_LENGTH, NOT_FOUND, OTHER_REVISION, SHEET_ZERO, STORE_LENGTH, TAKEN, TEXT_LENGTH,

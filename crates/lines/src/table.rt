@@ -1,0 +1,48 @@
+// A line for each used slot.
+ghost use mathlib.Core.Path.{_≡_};
+ghost use Prim.Native.Nat.{_+_, _≤_, _<_};
+ghost use lib.ListN.{length};
+ghost use Rattle.slots.specs.Slots.{slots};
+ghost use Rattle.lines.specs.Laid.{room, Laid};
+ghost use Rattle.lines.specs.Listing.{line, slotLine, lines};
+use super::numbers::field;
+
+// The lines of all slots.
+pub fn used_lines(out: &mut [u8], store: &[u8]) -> usize
+    requires { ⌜ slots (now store) ≤ 31 ⌝ }
+    ensures { λ n. ⌜ (Laid (lines (now (store .entry)) (slots (now (store .entry)))) 0 (now (out .entry)) n (now (out .exit))) × (n ≤ 3255) ⌝ }
+{
+    let count = slots::count(store);
+    let mut at = 0;
+    let mut k = 0;
+    while k < count {
+        at = slot_line(out, at, store, k);
+        k += 1;
+    }
+    at
+}
+
+// The line of slot k, and nothing where it is free.
+fn slot_line(out: &mut [u8], at: usize, store: &[u8], k: usize) -> usize
+    requires { ⌜ (at + 105 ≤ room) × (k < slots (now store)) ⌝ }
+    ensures { λ n. ⌜ (Laid (slotLine (now (store .entry)) k) at (now (out .entry)) n (now (out .exit))) × (n ≤ at + 105) ⌝ }
+{
+    let from = k * 2112;
+    let end = from + 2112;
+    if slots::number(&store[from..end]) == 0 {
+        return at;
+    }
+    line(out, at, k, &store[from..end])
+}
+
+// Slot, sheet, revision, mark, length.
+fn line(out: &mut [u8], at: usize, k: usize, r: &[u8]) -> usize
+    requires { ⌜ (at + 105 ≤ room) × (length (now r) ≡ 2112) ⌝ }
+    ensures { λ n. ⌜ (Laid (line k (now (r .entry))) at (now (out .entry)) n (now (out .exit))) × (n ≤ at + 105) ⌝ }
+{
+    let at = field(out, at, k, b' ');
+    let at = field(out, at, slots::number(r) as usize, b' ');
+    let at = field(out, at, slots::revision(r) as usize, b' ');
+    let at = field(out, at, slots::mark(r) as usize, b' ');
+    field(out, at, slots::text_length(r), b'\n')
+}

@@ -1,0 +1,12 @@
+//! Runs the proved listing program, and makes stores for it.
+//!
+//! - `program`: what it prints of an input
+//! - `slot`: a slot from its fields
+
+#![forbid(unsafe_code)]
+
+mod program;
+mod slot;
+
+pub use program::{listed, listed_from_file, listed_in_pieces};
+pub use slot::{Slot, RECORD};
