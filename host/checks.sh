@@ -9,6 +9,15 @@ check() { # WHAT WORDS..: what has to hold, and the command that succeeds if it 
     passed=$((passed + 1))
 }
 
+# Runs a program, which must end with the status. What it printed is in out and err.
+ends_with() { # STATUS PROGRAM WORDS..
+    wanted=$1
+    shift
+    "$@" >out 2>err
+    got=$?
+    check "$* ends with $wanted (it ended with $got: $(cat err))" [ "$got" -eq "$wanted" ]
+}
+
 all_passed() { # NAME
     echo "$1: $passed checks passed"
 }

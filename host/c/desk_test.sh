@@ -31,13 +31,10 @@ record() { # FILE SHEET REVISION MARK TEXT [KEY]: a file with one record
 
 record free 0 0 0 /dev/null
 
-# Runs desk, which must end with the status. What it printed is in out and err.
-gives() { # STATUS WORDS..
+gives() { # STATUS WORDS..: desk ends with the status
     wanted=$1
     shift
-    "$desk" "$@" >out 2>err
-    got=$?
-    check "desk $* ends with $wanted (it ended with $got: $(cat err))" [ "$got" -eq "$wanted" ]
+    ends_with "$wanted" "$desk" "$@"
 }
 
 prints() { # TEXT: the last run printed these lines and no more

@@ -31,6 +31,11 @@
  * So calls that write to a store run one at a time on that store, with no
  * other call on it meanwhile, and the host sees to that.
  *
+ * A server that has lost an answer cannot tell whether its call had run, and
+ * may make the same call again. "Made again" below says what it then gets if
+ * the first had run and returned LAGUNEDO_DONE. If the first was refused or
+ * never ran, nothing had changed, and the call is simply made.
+ *
  *
  * What is not offered
  *
@@ -117,6 +122,8 @@ enum lagunedo_number {
  * written. Equal blocks under one key give equal results, so a sheet is not
  * to be enciphered block by block with this call: lagunedo_eme2_encipher is
  * for that.
+ *
+ * Made again: LAGUNEDO_DONE, and the block is enciphered a second time.
  */
 uint32_t lagunedo_aes_encipher(const uint8_t *key, size_t key_length,
                                uint8_t *block, size_t block_length);
@@ -127,6 +134,8 @@ uint32_t lagunedo_aes_encipher(const uint8_t *key, size_t key_length,
  *
  * Parameters, refusals and memory are those of lagunedo_aes_encipher. There
  * is no sign of a wrong key: the block then holds 16 other bytes.
+ *
+ * Made again: LAGUNEDO_DONE, and the block is deciphered a second time.
  */
 uint32_t lagunedo_aes_decipher(const uint8_t *key, size_t key_length,
                                uint8_t *block, size_t block_length);
@@ -159,6 +168,10 @@ uint32_t lagunedo_aes_decipher(const uint8_t *key, size_t key_length,
  * same again. Equal messages under one key with equal associated data give
  * equal results, so the associated data should name the sheet, as the
  * 16-byte lead of a stored sheet does by its number and revision.
+ *
+ * Made again: LAGUNEDO_DONE, and the message is enciphered a second time, of
+ * which nothing shows; deciphering it once gives the first result back. A
+ * server that has lost the answer begins again from the message in clear.
  */
 uint32_t lagunedo_eme2_encipher(const uint8_t *key, size_t key_length,
                                 const uint8_t *ad, size_t ad_length,
@@ -172,6 +185,9 @@ uint32_t lagunedo_eme2_encipher(const uint8_t *key, size_t key_length,
  * Parameters, refusals and memory are those of lagunedo_eme2_encipher. There
  * is no sign of a wrong key, of wrong associated data or of changed bytes:
  * the call returns LAGUNEDO_DONE, and the message then holds other bytes.
+ *
+ * Made again: LAGUNEDO_DONE, and the message is deciphered a second time, of
+ * which nothing shows; enciphering it once gives the first result back.
  */
 uint32_t lagunedo_eme2_decipher(const uint8_t *key, size_t key_length,
                                 const uint8_t *ad, size_t ad_length,
@@ -231,14 +247,6 @@ uint32_t lagunedo_eme2_decipher(const uint8_t *key, size_t key_length,
  * A sheet number that stands in several slots: lagunedo_check faults each but
  * the lowest. The calls by sheet number take the lowest, and reach the next
  * only once that is removed. A step goes by its place and converts each.
- *
- *
- * A call made again
- *
- * A server that has lost an answer cannot tell whether its call had run, and
- * may make the same call again. "Made again" below says what it then gets if
- * the first had run and returned LAGUNEDO_DONE. If the first was refused or
- * never ran, nothing had changed, and the call is simply made.
  */
 enum lagunedo_size {
     LAGUNEDO_RECORD_SIZE = 2112,
@@ -523,8 +531,10 @@ struct lagunedo_job {
  *                            moved on by one unless the outcome is
  *                            LAGUNEDO_STEP_DONE
  *
- * The other parameters, the refusals, the outcomes and what it gets when made
- * again are those of lagunedo_step.
+ * The other parameters, the refusals and the outcomes are those of
+ * lagunedo_step.
+ *
+ * Made again: as lagunedo_step, on the job's place.
  */
 uint32_t lagunedo_job_step(struct lagunedo_job *job, const uint8_t *old_key,
                            size_t old_key_length, const uint8_t *new_key,

@@ -28,17 +28,22 @@ int bytes_read(int input, uint8_t *bytes, size_t room, size_t *length)
     return 0;
 }
 
-int key_read(const char *file, struct key *key)
+int file_read(const char *file, uint8_t *bytes, size_t room, size_t *length)
 {
     int input = open(file, O_RDONLY | O_CLOEXEC);
     int status = DESK_DONE;
 
     if (input == -1)
         return file_trouble(file);
-    if (bytes_read(input, key->bytes, KEY_ROOM, &key->length) != 0)
+    if (bytes_read(input, bytes, room, length) != 0)
         status = file_trouble(file);
     close(input);
     return status;
+}
+
+int key_read(const char *file, struct key *key)
+{
+    return file_read(file, key->bytes, KEY_ROOM, &key->length);
 }
 
 int text_read(struct text *text)

@@ -36,6 +36,9 @@ struct text {
  */
 int bytes_read(int input, uint8_t *bytes, size_t room, size_t *length);
 
+/* The same from a file; a status. */
+int file_read(const char *file, uint8_t *bytes, size_t room, size_t *length);
+
 /* The key in the file; a status. */
 int key_read(const char *file, struct key *key);
 

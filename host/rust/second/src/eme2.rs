@@ -7,20 +7,30 @@
 
 use crate::cipher::{cipher, inv_cipher};
 use crate::schedule::key_expansion;
+use crate::slip::Slip;
 use crate::{ASSOCIATED_LENGTH, KEY_LENGTH, MESSAGE_LENGTH};
 use std::array::from_fn;
+use std::ops::RangeInclusive;
 
 type Block = [u8; 16];
+
+/// 01: how many bytes a message has.
+pub const MESSAGE: RangeInclusive<usize> = 16..=65_536;
 
 /// The message overwritten with what EME2-AES makes of it under a key and
 /// associated data, deciphered where `back` is true. Returns 0, or the number
 /// of the first refusal that applies (01, transform: 1, 2, 3), and then keeps
 /// the message.
 pub fn eme2(key: &[u8], back: bool, ad: &[u8], message: &mut [u8]) -> u32 {
+    eme2_with(None, key, back, ad, message)
+}
+
+/// `eme2` with an error made on purpose, if one is given.
+pub fn eme2_with(slip: Option<Slip>, key: &[u8], back: bool, ad: &[u8], message: &mut [u8]) -> u32 {
     if key.len() != 48 && key.len() != 64 {
         return KEY_LENGTH;
     }
-    if message.len() < 16 || message.len() > 65_536 {
+    if !MESSAGE.contains(&message.len()) {
         return MESSAGE_LENGTH;
     }
     if ad.len() > 1_024 {
@@ -28,14 +38,12 @@ pub fn eme2(key: &[u8], back: bool, ad: &[u8], message: &mut [u8]) -> u32 {
     }
     let [key1, key2, key3] = parts(key);
     let w = key_expansion(key1);
-    let enc = |x: Block| cipher(&x, &w);
-    let dec = |x: Block| inv_cipher(&x, &w);
-    let t_star = associated(&enc, block(key3), ad);
-    if back {
-        wide(&dec, block(key2), t_star, message);
-    } else {
-        wide(&enc, block(key2), t_star, message);
-    }
+    let enc: &dyn Fn(Block) -> Block = &|x| cipher(&x, &w);
+    let dec: &dyn Fn(Block) -> Block = &|x| inv_cipher(&x, &w);
+    let permute = if back { dec } else { enc };
+    let on_data = Slip::AssociatedData.choose(slip, enc, permute);
+    let t_star = associated(on_data, block(key3), ad);
+    wide_with(slip, permute, block(key2), t_star, message);
     0
 }
 
@@ -84,11 +92,22 @@ pub fn wide(
     t_star: [u8; 16],
     message: &mut [u8],
 ) {
+    wide_with(None, permute, l, t_star, message);
+}
+
+/// `wide` with an error made on purpose, if one is given.
+fn wide_with(
+    slip: Option<Slip>,
+    permute: &dyn Fn(Block) -> Block,
+    l: Block,
+    t_star: Block,
+    message: &mut [u8],
+) {
     assert!(message.len() >= 16, "no full block");
     let p = split(message);
     let p_m = p[p.len() - 1];
     let ppp = first_pass(permute, l, &p);
-    let ccc = mix(permute, t_star, &ppp, p_m);
+    let ccc = mix(slip, permute, t_star, &ppp, p_m);
     let c = second_pass(permute, l, &ccc, p_m.len());
     message.copy_from_slice(&c);
 }
@@ -112,36 +131,50 @@ fn first_pass(permute: &dyn Fn(Block) -> Block, key2: Block, p: &[&[u8]]) -> Vec
 }
 
 /// Lines 18 to 40: CCC1 .. CCCm. Block i of the table is at place i - 1.
-fn mix(permute: &dyn Fn(Block) -> Block, t_star: Block, ppp: &[Block], p_m: &[u8]) -> Vec<Block> {
+fn mix(
+    slip: Option<Slip>,
+    permute: &dyn Fn(Block) -> Block,
+    t_star: Block,
+    ppp: &[Block],
+    p_m: &[u8],
+) -> Vec<Block> {
     let count = ppp.len();
     let mp = sum(t_star, ppp); // 18
-    let (mm, mc1) = if p_m.len() < 16 {
-        let mm = permute(mp); // 20
-        (Some(mm), permute(mm)) // 21
-    } else {
-        (None, permute(mp)) // 22
-    };
+    let (mm, mc1) = middle(permute, mp, p_m.len() < 16);
     let m1 = xor(mp, mc1); // 23
     let mut m = m1;
     let mut ccc = vec![[0; 16]; count];
     for i in 2..count {
         if begins_mask(i) {
-            let mp = xor(ppp[i - 1], m1); // 29
+            let from = Slip::NewMask.choose(slip, m1, m);
+            let mp = xor(ppp[i - 1], from); // 29
             let mc = permute(mp); // 30
             m = xor(mp, mc); // 31
-            ccc[i - 1] = xor(mc, m1); // 32
+            ccc[i - 1] = xor(mc, from); // 32
         } else {
             m = double(m); // 26
             ccc[i - 1] = xor(ppp[i - 1], m); // 27
         }
     }
     if let Some(mm) = mm {
-        ccc[count - 1] = last_short(mm, p_m); // 33 to 35
+        let beside = Slip::ShortBlock.choose(slip, mm, mc1);
+        ccc[count - 1] = last_short(beside, p_m); // 33 to 35
     } else if count > 1 {
-        ccc[count - 1] = last_full(permute, [m, m1], count, ppp[count - 1]); // 36 to 39
+        let from = Slip::NewMask.choose(slip, m1, m);
+        ccc[count - 1] = last_full(permute, [m, from], count, ppp[count - 1]); // 36 to 39
     }
     ccc[0] = sum(xor(mc1, t_star), &ccc[1..]); // 40
     ccc
+}
+
+/// Lines 19 to 22: MM, which is there for a short Pm alone, and MC1.
+fn middle(permute: &dyn Fn(Block) -> Block, mp: Block, short: bool) -> (Option<Block>, Block) {
+    if short {
+        let mm = permute(mp); // 20
+        (Some(mm), permute(mm)) // 21
+    } else {
+        (None, permute(mp)) // 22
+    }
 }
 
 /// Lines 34 and 35: CCCm for a short Pm.
@@ -192,6 +225,13 @@ fn second_pass(
 /// begins a new mask.
 fn begins_mask(i: usize) -> bool {
     (i - 1).is_multiple_of(128)
+}
+
+/// The blocks of a message of some length, counted from 1, that begin a new
+/// mask after the first.
+#[must_use]
+pub fn new_masks(length: usize) -> Vec<usize> {
+    (2..=length / 16).filter(|i| begins_mask(*i)).collect()
 }
 
 /// Mult-by-alpha, section 5.1. EME-32-AES has the same.

@@ -9,6 +9,7 @@
 //! - `schedule`: the round keys (5.2)
 //! - `cipher`: one block, both ways (5.1, 5.3)
 //! - `eme2`: whole messages, both ways (000, Tables 1 and 2)
+//! - `slip`: the errors that a lesson makes in it on purpose (01)
 //! - `record`: one slot of the store, its fields and its text (01, the store)
 //! - `store`: check, read, add, revise, remove
 //! - `step`: one step of the rekeying job
@@ -23,11 +24,12 @@ mod listing;
 mod numbers;
 mod record;
 mod schedule;
+mod slip;
 mod step;
 mod store;
 mod substitution;
 
-pub use eme2::{double, eme2, wide};
+pub use eme2::{double, eme2, eme2_with, new_masks, wide, MESSAGE};
 pub use listing::listing;
 pub use numbers::{
     ASSOCIATED_LENGTH, BLOCK_LENGTH, BUFFER_LENGTH, FULL, KEY_LENGTH, LAST_REVISION,
@@ -35,6 +37,7 @@ pub use numbers::{
     UNSOUND,
 };
 pub use record::Keys;
+pub use slip::Slip;
 pub use step::{step, Outcome};
 pub use store::{add, check, read, remove, revise, Checked, Counts, Found};
 

@@ -1,7 +1,7 @@
 //! EME2-AES against 01's table of edges, examples worked by hand, the
 //! published vectors of EME-32-AES, and itself the other way.
 
-use super::{associated, begins_mask, double, pad, parts, split, Block};
+use super::{associated, double, pad, parts, split, Block};
 use crate::cipher::{cipher, inv_cipher};
 use crate::schedule::key_expansion;
 use crate::{eme2, wide, ASSOCIATED_LENGTH, KEY_LENGTH, MESSAGE_LENGTH};
@@ -86,8 +86,7 @@ fn new_masks() {
         (65_536, (1..32).map(|k| 128 * k + 1).collect()),
     ] {
         let full = length / 16;
-        let masks: Vec<usize> = (2..=full).filter(|i| begins_mask(*i)).collect();
-        assert_eq!(masks, wanted, "{length}");
+        assert_eq!(super::new_masks(length), wanted, "{length}");
         let calls = Cell::new(0);
         let permute = |x| {
             calls.set(calls.get() + 1);
