@@ -10,4 +10,5 @@ pub mod StaysChecked
 pub mod LastSlot
 pub mod OneOfTwo
 pub mod Idle
+pub mod KeyLengths
 pub mod Demand3

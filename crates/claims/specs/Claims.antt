@@ -1,16 +1,20 @@
 -- Demand 3: what its sentences speak of, and what is claimed of a step, whatever it does; and the two idle steps that 01 wants shut out.
 -- Assumes nothing.
 use mathlib.Core.Path.{_≡_}
-use mathlib.Core.Bool.{false, cond}
+use mathlib.Core.Bool.{true, false, cond, _||_}
 use mathlib.Core.List.{List, [], _∷_, _++_}
 use Prim.Native.Nat.{ℕ, zero, suc, _≤_, _<_}
 use lib.Dec.{eqb}
+use lib.ListN.{length, getD}
 use Rattle.block.specs.Bytes.{Bytes}
 use Rattle.slots.specs.Slots.{slots, slot}
-use Rattle.store.specs.Calls.{checkAnswer, counts, marked}
-use lib.ListN.{getD}
 use Rattle.store.specs.declared.Removed.the-variants.{Done}
+use Rattle.store.specs.Calls.{checkAnswer, counts, marked}
 use Rattle.claims.specs.Machine.{Event, reading, adding, revising, removing, stepping, AllAllowed, Answer, ofRemoved, ofStep, State, Step, storeStep, finalBy, answers}
+
+-- a key: 48 or 64 bytes
+abbrev pub Key : List ℕ → Type 0
+Key k = Bytes k × (eqb (length k) 48 || eqb (length k) 64 ≡ true)
 
 -- the check call answers with the five counts
 abbrev pub Passes : List ℕ → Type 0
