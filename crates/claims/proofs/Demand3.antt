@@ -19,7 +19,8 @@ use Rattle.claims.proofs.Checking.{passes-sound, passes-apart, good-pas
 use Rattle.claims.proofs.StaysChecked.{stays-apart}
 use Rattle.claims.proofs.LastSlot.{last-slot}
 use Rattle.claims.proofs.OneOfTwo.{one-of-two}
-use Rattle.claims.proofs.Idle.{keeps-others, first-only-fails, every-slot-fails}
+use Rattle.claims.proofs.StepRule.{keeps-others}
+use Rattle.claims.proofs.Idle.{first-only-fails, every-slot-fails}
 
 module _ (o w : List ℕ) (ko : Key o) (kw : Key w) where
   keys : badKeys o w ≡ false
@@ -62,7 +63,7 @@ module _ (o w : List ℕ) (ko : Key o) (kw : Key w) where
   others-kept = keeps-others o w (ko .0) (kw .0)
 
   -- ---- the idle steps are shut out: the one that converts in the first step and then only moves the place, by the last-slot claim; the one that
-  -- converts every slot at once, by the step's own rule. Each is shown on a store of two slots (Idle: twoClear)
+  -- converts every slot at once, by the step's own rule. Each is shown on a store of two slots (TwoClear: twoClear)
 
   pub only-the-first-shut-out : LastSlotClaim o w (onlyTheFirst o w) → ⊥
   only-the-first-shut-out = first-only-fails o w keys (ko .0) (kw .0)

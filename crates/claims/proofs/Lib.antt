@@ -9,6 +9,8 @@ pub mod Checking
 pub mod StaysChecked
 pub mod LastSlot
 pub mod OneOfTwo
+pub mod StepRule
+pub mod TwoClear
 pub mod Idle
 pub mod KeyLengths
 pub mod Demand3

@@ -1,0 +1,102 @@
+-- A store of two sheets in clear, of sixteen zeros each, which passes the check.
+-- Assumes nothing.
+use mathlib.Core.Path.{_≡_, refl, ap, ap₂, _∙_}
+use mathlib.Core.Bool.{true, not, _||_}
+use mathlib.Core.List.{List, _++_}
+use Prim.Native.Nat.{ℕ, zero, suc, _+_, _-_, _<_, _/_, _%_}
+use native.Mathlib.Omega.{arith}
+use lib.Dec.{eqb, ltb}
+use lib.ListN.{length, take, replicate, length-replicate, length-append}
+use lib.Seq.{take-at, drop-at, take-all}
+use Rattle.block.specs.Bytes.{Bytes}
+use Rattle.block.specs.Rows.{row}
+use Rattle.block.proofs.BytesLaws.{bytes-zeros, bytes-append}
+use Rattle.slots.specs.Record.{num, mark, sound, recordOf, lead}
+use Rattle.slots.specs.Slots.{slots, slot}
+use Rattle.slots.proofs.RecordLaws.{num-record, mark-record, sound-record, length-record, bytes-lead}
+use Rattle.store.specs.Plans.{badSize}
+use Rattle.claims.specs.Claims.{Passes}
+use Rattle.claims.proofs.Simulation.{SoundStore}
+use Rattle.claims.proofs.Checking.{Apart, good-passes}
+
+unfoldable pub clear : ℕ → List ℕ
+clear n = recordOf n 1 0 (replicate 16 0)
+
+pub twoClear : List ℕ
+twoClear = clear 1 ++ clear 2
+
+module _ (n : ℕ) where
+  length-text : length (replicate {A = ℕ} 16 0) ≡ 16
+  length-text = length-replicate {A = ℕ} 16 0
+
+  length-clear : length (clear n) ≡ 2112
+  unfolding clear
+  length-clear = length-record n 1 0 (replicate 16 0) (omega (arith, length-text))
+
+  pub mark-clear : mark (clear n) ≡ 0
+  unfolding clear
+  mark-clear = mark-record n 1 0 (replicate 16 0)
+
+  bytes-clear : Bytes (clear n)
+  unfolding clear recordOf
+  bytes-clear =
+      bytes-append (lead n 1 0 (length (replicate {A = ℕ} 16 0))) (replicate 16 0 ++ replicate (2096 - length (replicate {A = ℕ} 16 0)) 0)
+      (bytes-lead n 1 0 (length (replicate {A = ℕ} 16 0)) (omega arith))
+      (bytes-append (replicate 16 0) (replicate (2096 - length (replicate {A = ℕ} 16 0)) 0) (bytes-zeros 16) (bytes-zeros (2096 - length (replicate {A = ℕ} 16 0))))
+
+  module _ (h : n < 4294967296) where
+    pub num-clear : num (clear n) ≡ n
+    unfolding clear
+    num-clear = num-record n 1 0 (replicate 16 0) h
+
+    sound-clear : (n ≡ 0 → ⊥) → sound (clear n) ≡ true
+    unfolding clear
+    sound-clear z = sound-record n 1 0 (replicate 16 0) (omega (arith, length-text)) z h (omega arith) (omega arith) (omega arith) (omega (arith, length-text))
+
+length-two : length twoClear ≡ 4224
+unfolding twoClear
+length-two = length-append (clear 1) (clear 2) ∙ ap₂ (λ (a b : ℕ). a + b) (length-clear 1) (length-clear 2)
+
+pub two-slots : slots twoClear ≡ 2
+two-slots = ap (λ (n : ℕ). n / 2112) length-two
+
+pub slot-0 : slot twoClear 0 ≡ clear 1
+unfolding twoClear row
+slot-0 = take-at (clear 1) (clear 2) 2112 (length-clear 1)
+
+pub slot-1 : slot twoClear 1 ≡ clear 2
+unfolding twoClear row
+slot-1 = ap (take 2112) (drop-at (clear 1) (clear 2) 2112 (length-clear 1)) ∙ take-all 2112 (clear 2) (omega (arith, length-clear 2))
+
+-- what holds of both slots
+both : (P : ℕ → Type 0) → P 0 → P 1 → (k : ℕ) → k < 2 → P k
+both P a b zero h = a
+both P a b (suc zero) h = b
+both P a b (suc (suc k)) h = let y : ⊥ = omega arith in absurd y
+
+pub sound-two : SoundStore twoClear
+unfolding badSize twoClear
+sound-two =
+    record {
+      size = ap (λ (n : ℕ). not (eqb (n % 2112) 0) || ltb 1024 (n / 2112)) length-two;
+      bytes = bytes-append (clear 1) (clear 2) (bytes-clear 1) (bytes-clear 2);
+      each = λ k h. both (λ i. sound (slot twoClear i) ≡ true)
+          (ap sound slot-0 ∙ sound-clear 1 (omega arith) (λ q. let y : ⊥ = omega arith in y))
+          (ap sound slot-1 ∙ sound-clear 2 (omega arith) (λ q. let y : ⊥ = omega arith in y)) k (omega (arith, two-slots));
+    }
+
+pub number-0 : num (slot twoClear 0) ≡ 1
+number-0 = ap num slot-0 ∙ num-clear 1 (omega arith)
+
+number-1 : num (slot twoClear 1) ≡ 2
+number-1 = ap num slot-1 ∙ num-clear 2 (omega arith)
+
+apart-two : Apart twoClear
+apart-two j k hj hk z q =
+    both (λ a. num (slot twoClear a) ≡ num (slot twoClear k) → a ≡ k)
+    (both (λ b. num (slot twoClear 0) ≡ num (slot twoClear b) → 0 ≡ b) (λ e. refl) (λ e. let y : ⊥ = omega (arith, number-0, number-1) in absurd y) k (omega (arith, two-slots)))
+    (both (λ b. num (slot twoClear 1) ≡ num (slot twoClear b) → 1 ≡ b) (λ e. let y : ⊥ = omega (arith, number-0, number-1) in absurd y) (λ e. refl) k (omega (arith, two-slots)))
+    j (omega (arith, two-slots)) q
+
+pub two-pass : Passes twoClear
+two-pass = good-passes twoClear sound-two apart-two
