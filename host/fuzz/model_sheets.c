@@ -34,6 +34,17 @@ static size_t found(const uint8_t *store, size_t store_length, uint32_t sheet)
     return slot_lowest(store, slots, sheet) * LAGUNEDO_RECORD_SIZE;
 }
 
+/* 7, 12: where the slot of a sheet stands that is to be read or revised. */
+static uint32_t sound_sheet(const uint8_t *store, size_t store_length,
+                            uint32_t sheet, size_t *at, struct slot *slot)
+{
+    *at = found(store, store_length, sheet);
+    if (*at == store_length)
+        return LAGUNEDO_NO_SHEET;
+    *slot = slot_of(store + *at);
+    return slot->sound ? LAGUNEDO_DONE : LAGUNEDO_SLOT_UNSOUND;
+}
+
 uint32_t model_read(const uint8_t *old_key, size_t old_key_length,
                     const uint8_t *new_key, size_t new_key_length,
                     const uint8_t *store, size_t store_length,
@@ -48,12 +59,9 @@ uint32_t model_read(const uint8_t *old_key, size_t old_key_length,
 
     if (number != LAGUNEDO_DONE)
         return number;
-    at = found(store, store_length, sheet);
-    if (at == store_length)
-        return LAGUNEDO_NO_SHEET;
-    slot = slot_of(store + at);
-    if (!slot.sound)
-        return LAGUNEDO_SLOT_UNSOUND;
+    number = sound_sheet(store, store_length, sheet, &at, &slot);
+    if (number != LAGUNEDO_DONE)
+        return number;
     if (text_length < slot.length)
         return LAGUNEDO_BUFFER_LENGTH;
     text_in_clear(store + at, &slot, old, new, text);
@@ -103,12 +111,9 @@ uint32_t model_revise(const uint8_t *old_key, size_t old_key_length,
         return number;
     if (!text_taken(text_length))
         return LAGUNEDO_TEXT_LENGTH;
-    at = found(store, store_length, sheet);
-    if (at == store_length)
-        return LAGUNEDO_NO_SHEET;
-    slot = slot_of(store + at);
-    if (!slot.sound)
-        return LAGUNEDO_SLOT_UNSOUND;
+    number = sound_sheet(store, store_length, sheet, &at, &slot);
+    if (number != LAGUNEDO_DONE)
+        return number;
     if (slot.revision != seen)
         return LAGUNEDO_OTHER_REVISION;
     if (slot.revision == 65535)

@@ -20,7 +20,7 @@ use Rattle.slots.specs.Text.{textOf, sheet}
 use Rattle.slots.specs.Slots.{slots, slot, emptied, find}
 use Rattle.slots.proofs.FieldLaws.{sound-len, sound-fields, num-bound, rev-bound}
 use Rattle.slots.proofs.FindLaws.{find-has, length-slot}
-use Rattle.slots.proofs.RecordLaws.{bytes-sheet}
+use Rattle.slots.proofs.SheetLaws.{num-sheet, rev-sheet, length-sheet, sound-sheet, bytes-sheet}
 use Rattle.slots.proofs.TextLaws.{length-textOf}
 use Rattle.store.specs.declared.Plan.{Plan}
 use Rattle.store.specs.declared.Plan.the-variants.{Refuse, At}
@@ -29,12 +29,11 @@ use Rattle.store.specs.declared.Outcome.the-variants.{Done, Free, Damaged, Alre
 use Rattle.store.specs.Plans.{badKeys, absent, addPlan, revisePlan, reviseAtPlan, removePlan}
 use Rattle.store.specs.Calls.{addStore, reviseStore, removeStore, recordOutcome, outcomeAt, convertedAt, stepStore}
 use Rattle.store.proofs.PlanLaws.{passed, slotOf, there, text-fits, long-enough, remove-at}
-use Rattle.store.proofs.RoundTrip.{length-sheet}
 use Rattle.claims.specs.Plain.{Place, holding, revisionOf, at, afterAdd, afterRevise, afterRemove}
 use Rattle.claims.specs.View.{plain}
 use Rattle.claims.proofs.ViewLaws.{length-plain, put-plain}
 use Rattle.claims.proofs.Simulation.{SoundStore, held}
-use Rattle.claims.proofs.Keeping.{place-emptied, sound-emptied, length-emptied, place-sheet, sound-sheet, sound-put, num-sheet, rev-sheet}
+use Rattle.claims.proofs.Keeping.{place-emptied, sound-emptied, length-emptied, place-sheet, sound-put}
 
 -- a place that is set to what it holds
 set-same : (l : List Place) (k : ℕ) → k < length l → set l k (at l k) ≡ l
@@ -171,8 +170,8 @@ convert-says o w s k bo bw bs e =
       long = omega (arith, b);
       fits = ht;
       whole = length-sheet w (num r) (rev r) t bw bt ht;
-      number = num-sheet w (num r) (rev r) t bw bt ht (num-bound r br);
-      revision = rev-sheet w (num r) (rev r) t bw bt ht (num-bound r br) (rev-bound r br);
+      number = num-sheet w (num r) (rev r) t (num-bound r br);
+      revision = rev-sheet w (num r) (rev r) t (rev-bound r br);
     }
 
 -- ---- the effects
@@ -194,7 +193,7 @@ module _ (o w s : List ℕ) (keys : badKeys o w ≡ false) (bo : Bytes o) (bw : 
       let x : List ℕ = sheet w n 1 t in
       let lx : length x ≡ 2112 = length-sheet w n 1 t bw bt (a .fits) in (
         put-plain o w s k x (a .within) lx ∙ ap (set (plain o w s) k) (place-sheet w n 1 t bw bt (a .fits) hn (lit< tt) o (a .some)),
-        sound-put s k (a .within) x lx g (bytes-sheet w n 1 t bw bt) (sound-sheet w n 1 t bw bt (a .fits) hn (lit< tt) (a .some) (omega arith) (a .long)),
+        sound-put s k (a .within) x lx g (bytes-sheet w n 1 t bw bt) (sound-sheet w n 1 t bw bt (a .fits) (a .some) hn (omega arith) (lit< tt) (a .long)),
       )
 
   pub effect-revise : (n v : ℕ) (t : List ℕ) → n < 4294967296 → Bytes t → (p : Plan) → revisePlan o w s n v t ≡ p
@@ -211,7 +210,7 @@ module _ (o w s : List ℕ) (keys : badKeys o w ≡ false) (bo : Bytes o) (bw : 
         put-plain o w s k x (a .within) lx
             ∙ ap (set (plain o w s) k) (place-sheet w n (rev r + 1) t bw bt (a .fits) hn hv o (a .some))
             ∙ ap (λ (j : ℕ). set (plain o w s) k (holding n (j + 1) t)) (sym q),
-        sound-put s k (a .within) x lx g (bytes-sheet w n (rev r + 1) t bw bt) (sound-sheet w n (rev r + 1) t bw bt (a .fits) hn hv (a .some) (omega arith) (a .long)),
+        sound-put s k (a .within) x lx g (bytes-sheet w n (rev r + 1) t bw bt) (sound-sheet w n (rev r + 1) t bw bt (a .fits) (a .some) hn (omega arith) hv (a .long)),
       )
 
   -- a step leaves the list as it was
@@ -232,7 +231,7 @@ module _ (o w s : List ℕ) (keys : badKeys o w ≡ false) (bo : Bytes o) (bw : 
             ∙ ap (set (plain o w s) k) (place-sheet w (num r) (rev r) t bw (c .bytes) (c .fits) hn hv o (c .used) ∙ sym (held o w s keys bo bw g k (c .within) (c .used)))
             ∙ set-same (plain o w s) k (omega (arith, length-plain o w s, c .within)),
         sound-put s k (c .within) (rekeyed o w s k) (c .whole) g (bytes-sheet w (num r) (rev r) t bw (c .bytes))
-            (sound-sheet w (num r) (rev r) t bw (c .bytes) (c .fits) hn hv (c .used) (omega (arith, f)) (c .long)),
+            (sound-sheet w (num r) (rev r) t bw (c .bytes) (c .fits) (c .used) hn (omega (arith, f)) hv (c .long)),
       )
 
   pub effect-step : (p : Plan) → (plain o w (stepStore o w s p) ≡ plain o w s) × SoundStore (stepStore o w s p)

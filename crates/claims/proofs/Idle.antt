@@ -15,11 +15,12 @@ use Rattle.store.specs.declared.Plan.{Plan}
 use Rattle.store.specs.declared.Outcome.the-variants.{Converted}
 use Rattle.store.specs.Plans.{badKeys, stepPlan}
 use Rattle.store.specs.Calls.{marked, outcomeAt, movedFrom, convertedAt, stepAnswer, stepStore}
+use Rattle.slots.proofs.SheetLaws.{mark-sheet}
 use Rattle.store.proofs.StepLaws.{inside, is-converted}
 use Rattle.claims.specs.Machine.{stepping, State, storeStep, placeAfter}
 use Rattle.claims.specs.Claims.{LastSlotClaim, KeepsOthers, onlyTheFirst, firstSlots, everySlot}
 use Rattle.claims.proofs.Simulation.{SoundStore}
-use Rattle.claims.proofs.Keeping.{slots-put, slot-put, mark-sheet}
+use Rattle.claims.proofs.Keeping.{slots-put, slot-put}
 use Rattle.claims.proofs.Effects.{rekeyed, convert-says, effect-step}
 use Rattle.claims.proofs.LastSlot.{step-taken}
 use Rattle.claims.proofs.StepRule.{keeps-others}

@@ -10,14 +10,13 @@ use lib.Dec.{eqb, ltb}
 use lib.ListN.{length, length-replicate}
 use Rattle.block.specs.Bytes.{Bytes}
 use Rattle.block.proofs.RowLaws.{length-putRow, row-put, bytes-putRow}
-use Rattle.eme2.specs.Transform.{afterwards}
-use Rattle.slots.specs.Record.{num, rev, mark, sound, lead}
+use Rattle.slots.specs.Record.{num, rev, sound}
 use Rattle.slots.specs.Text.{textOf, sheet}
 use Rattle.slots.specs.Slots.{slots, slot, put, emptied}
 use Rattle.slots.proofs.FieldLaws.{sound-free}
-use Rattle.slots.proofs.RecordLaws.{num-record, rev-record, mark-record, sound-record, sheet-text, allZero-zeros}
+use Rattle.slots.proofs.RecordLaws.{allZero-zeros}
+use Rattle.slots.proofs.SheetLaws.{num-sheet, rev-sheet, sheet-text}
 use Rattle.store.specs.Plans.{badSize}
-use Rattle.store.proofs.RoundTrip.{kept}
 use Rattle.claims.specs.Plain.{nothing, holding}
 use Rattle.claims.specs.View.{placeOf}
 use Rattle.claims.proofs.ViewLaws.{slot-other}
@@ -41,33 +40,15 @@ length-emptied = length-replicate {A = ℕ} 2112 0
 
 -- ---- a slot that becomes a sheet
 
-pub mark-sheet : (w : List ℕ) (n v : ℕ) (t : List ℕ) → mark (sheet w n v t) ≡ 2
-unfolding sheet
-mark-sheet w n v t = mark-record n v 2 (afterwards false w (lead n v 2 (length t)) t)
-
-module _ (w : List ℕ) (n v : ℕ) (t : List ℕ) (bw : Bytes w) (bt : Bytes t) (ht : length t ≤ 2096) (hn : n < 4294967296) where
-  pub num-sheet : num (sheet w n v t) ≡ n
-  unfolding sheet
-  num-sheet = num-record n v 2 (afterwards false w (lead n v 2 (length t)) t) hn
-
-  module _ (hv : v < 65536) where
-    pub rev-sheet : rev (sheet w n v t) ≡ v
-    unfolding sheet
-    rev-sheet = rev-record n v 2 (afterwards false w (lead n v 2 (length t)) t) hv
-
-    pub place-sheet : (o : List ℕ) → (n ≡ 0 → ⊥) → placeOf o w (sheet w n v t) ≡ holding n v t
-    unfolding placeOf
-    place-sheet o z =
-        let x : List ℕ = sheet w n v t in
-        ap (λ (b : Bool). cond b nothing (holding (num x) (rev x) (textOf o w x))) (ne-eqb (num x) 0 (λ q. z (sym num-sheet ∙ q)))
-        ∙ ap₂ (λ (i j : ℕ). holding i j (textOf o w x)) num-sheet rev-sheet
-        ∙ ap (holding n v) (sheet-text o w n v t bw bt ht)
-
-    pub sound-sheet : (n ≡ 0 → ⊥) → 1 ≤ v → 16 ≤ length t → sound (sheet w n v t) ≡ true
-    unfolding sheet
-    sound-sheet z h l =
-        sound-record n v 2 (afterwards false w (lead n v 2 (length t)) t) (omega (arith, kept w n v t bw bt ht)) z hn h hv (omega arith)
-        (omega (arith, kept w n v t bw bt ht))
+pub place-sheet : (w : List ℕ) (n v : ℕ) (t : List ℕ) → Bytes w → Bytes t → length t ≤ 2096 → n < 4294967296 → v < 65536
+    → (o : List ℕ) → (n ≡ 0 → ⊥) → placeOf o w (sheet w n v t) ≡ holding n v t
+unfolding placeOf
+place-sheet w n v t bw bt ht hn hv o z =
+    let x : List ℕ = sheet w n v t in
+    let m : num x ≡ n = num-sheet w n v t hn in
+    ap (λ (b : Bool). cond b nothing (holding (num x) (rev x) (textOf o w x))) (ne-eqb (num x) 0 (λ q. z (sym m ∙ q)))
+    ∙ ap₂ (λ (i j : ℕ). holding i j (textOf o w x)) m (rev-sheet w n v t hv)
+    ∙ ap (holding n v) (sheet-text o w n v t bw bt ht)
 
 -- ---- a store with one slot written anew
 

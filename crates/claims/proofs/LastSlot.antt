@@ -19,12 +19,12 @@ use Rattle.store.specs.declared.Outcome.the-variants.{Done, Free, Damaged, Alre
 use Rattle.store.specs.Plans.{badKeys, badSize, addPlan, revisePlan, removePlan, stepPlan}
 use Rattle.store.specs.Calls.{marked, addStore, reviseStore, removeStore, recordOutcome, outcomeAt, movedFrom, convertedAt, stepAnswer, stepStore}
 use Rattle.store.proofs.PlanLaws.{no, remove-at}
-use Rattle.store.proofs.RoundTrip.{length-sheet}
+use Rattle.slots.proofs.SheetLaws.{mark-sheet, length-sheet}
 use Rattle.claims.specs.Machine.{Event, reading, adding, revising, removing, stepping, AllAllowed, State, storeStep, placeAfter, moved, next, final}
 use Rattle.claims.specs.Claims.{NoneLeft, stepsOf, LastSlotClaim}
 use Rattle.claims.proofs.ViewLaws.{slot-other}
 use Rattle.claims.proofs.Simulation.{SoundStore}
-use Rattle.claims.proofs.Keeping.{length-emptied, mark-sheet, slots-put, slot-put}
+use Rattle.claims.proofs.Keeping.{length-emptied, slots-put, slot-put}
 use Rattle.claims.proofs.Effects.{add-says, revise-says, rekeyed, convert-says}
 use Rattle.claims.proofs.Traces.{one-next, same-list, slots-stay}
 use Rattle.claims.proofs.Joining.{final-join, allowed-left, allowed-right}

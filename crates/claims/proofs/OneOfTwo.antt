@@ -15,6 +15,7 @@ use Rattle.slots.specs.Record.{num, rev}
 use Rattle.slots.specs.Text.{sheet}
 use Rattle.slots.specs.Slots.{slots, slot, put, emptied, scan, find}
 use Rattle.slots.proofs.FieldLaws.{rev-bound}
+use Rattle.slots.proofs.SheetLaws.{num-sheet, rev-sheet, length-sheet}
 use Rattle.slots.proofs.FindLaws.{hasNum, find-has}
 use Rattle.store.specs.declared.Plan.{Plan}
 use Rattle.store.specs.declared.Plan.the-variants.{Refuse, At}
@@ -25,12 +26,11 @@ use Rattle.store.specs.declared.Removed.the-variants as removed
 use Rattle.store.specs.Plans.{badKeys, addPlan, revisePlan, removePlan, stepPlan}
 use Rattle.store.specs.Calls.{addStore, reviseAnswer, reviseStore, removeAnswer, removeStore, outcomeAt, convertedAt, stepStore}
 use Rattle.store.proofs.PlanLaws.{passed, slotOf, there, remove-at}
-use Rattle.store.proofs.RoundTrip.{length-sheet}
 use Rattle.claims.specs.Machine.{Event, reading, adding, revising, removing, stepping, Allowed, AllAllowed, Answer, ofRead, ofStored, ofRemoved, ofStep, State, answer, next, answers}
 use Rattle.claims.specs.Claims.{eventAt, answerAt, RemovedAt}
 use Rattle.claims.proofs.ViewLaws.{scan-same, slot-other}
 use Rattle.claims.proofs.Simulation.{SoundStore}
-use Rattle.claims.proofs.Keeping.{num-emptied, length-emptied, num-sheet, rev-sheet, slots-put, slot-put}
+use Rattle.claims.proofs.Keeping.{num-emptied, length-emptied, slots-put, slot-put}
 use Rattle.claims.proofs.Effects.{add-says, revise-says, rekeyed, convert-says}
 use Rattle.claims.proofs.Traces.{one-next}
 
@@ -97,7 +97,7 @@ module _ (o w : List ℕ) (keys : badKeys o w ≡ false) (bo : Bytes o) (bw : By
     above-add i t hi bt (At k) e =
         let c = add-says o w s i t k e in
         let x : List ℕ = sheet w i 1 t in
-        let d : num x ≡ i = num-sheet w i 1 t bw bt (c .fits) hi in
+        let d : num x ≡ i = num-sheet w i 1 t hi in
         let y : i ≡ n → ⊥ = λ q. let f : find s i ≡ find s n = ap (find s) q in let b : ⊥ = omega (arith, c .new, a .0) in b in
         let m : num (slot s k) ≡ n → ⊥ = λ q. z (sym q ∙ c .free) in
         above-put s k (c .within) x (length-sheet w i 1 t bw bt (c .fits)) n (ne-eqb (num x) n (λ q. y (sym d ∙ q)) ∙ sym (ne-eqb (num (slot s k)) n m)) v
@@ -110,8 +110,8 @@ module _ (o w : List ℕ) (keys : badKeys o w ≡ false) (bo : Bytes o) (bw : By
         let r : List ℕ = slot s k in
         let hv : rev r + 1 < 65536 = omega (arith, rev-bound r (bytes-row 2112 s k (g .bytes)), c .below) in
         let x : List ℕ = sheet w i (rev r + 1) t in
-        let d : num x ≡ num r = num-sheet w i (rev r + 1) t bw bt (c .fits) hi ∙ sym (c .number) in
-        let y : rev x ≡ rev r + 1 = rev-sheet w i (rev r + 1) t bw bt (c .fits) hi hv in
+        let d : num x ≡ num r = num-sheet w i (rev r + 1) t hi ∙ sym (c .number) in
+        let y : rev x ≡ rev r + 1 = rev-sheet w i (rev r + 1) t hv in
         above-put s k (c .within) x (length-sheet w i (rev r + 1) t bw bt (c .fits)) n (ap (λ (j : ℕ). eqb j n) d) v (λ q. omega arith) a
 
     above-converted : (k : ℕ) (x : Outcome) → outcomeAt s k ≡ x → Above n v (convertedAt o w s k x)
@@ -174,8 +174,8 @@ module _ (o w : List ℕ) (keys : badKeys o w ≡ false) (bo : Bytes o) (bw : By
       let x : List ℕ = sheet w n (rev (slot s k) + 1) t in
       let hv : rev (slot s k) + 1 < 65536 = omega (arith, rev-bound (slot s k) (bytes-row 2112 s k (g .bytes)), c .below) in
       let lx : length x ≡ 2112 = length-sheet w n (rev (slot s k) + 1) t bw bt (c .fits) in
-      let d : num x ≡ num (slot s k) = num-sheet w n (rev (slot s k) + 1) t bw bt (c .fits) hn ∙ sym (c .number) in
-      let y : rev x ≡ rev (slot s k) + 1 = rev-sheet w n (rev (slot s k) + 1) t bw bt (c .fits) hn hv in
+      let d : num x ≡ num (slot s k) = num-sheet w n (rev (slot s k) + 1) t hn ∙ sym (c .number) in
+      let y : rev x ≡ rev (slot s k) + 1 = rev-sheet w n (rev (slot s k) + 1) t hv in
       let f : find (put s k x) n ≡ k = find-same s k (c .within) x lx n (ap (λ (j : ℕ). eqb j n) d) ∙ c .place in
       let i : rev (slot (put s k x) (find (put s k x) n)) ≡ rev x = ap (λ (j : ℕ). rev (slot (put s k x) j)) f ∙ ap rev (slot-put s k (c .within) x lx) in
       (omega (arith, c .within, slots-put s k (c .within) x lx), omega (arith, c .seen))

@@ -9,6 +9,7 @@ use Rattle.block.specs.Bytes.{Bytes}
 use Rattle.slots.specs.Record.{num, rev}
 use Rattle.slots.specs.Text.{sheet}
 use Rattle.slots.specs.Slots.{slot, emptied}
+use Rattle.slots.proofs.SheetLaws.{num-sheet, length-sheet}
 use Rattle.slots.proofs.FindLaws.{find-lowest}
 use Rattle.store.specs.declared.Plan.{Plan}
 use Rattle.store.specs.declared.Plan.the-variants.{Refuse, At}
@@ -17,10 +18,9 @@ use Rattle.store.specs.declared.Outcome.the-variants.{Done, Free, Damaged, Alre
 use Rattle.store.specs.Plans.{badKeys, addPlan, revisePlan, removePlan, stepPlan}
 use Rattle.store.specs.Calls.{addStore, reviseStore, removeStore, outcomeAt, convertedAt, stepStore}
 use Rattle.store.proofs.PlanLaws.{remove-at}
-use Rattle.store.proofs.RoundTrip.{length-sheet}
 use Rattle.claims.specs.Machine.{Event, reading, adding, revising, removing, stepping, Allowed, AllAllowed, State, next, final}
 use Rattle.claims.proofs.Simulation.{SoundStore}
-use Rattle.claims.proofs.Keeping.{num-emptied, length-emptied, num-sheet}
+use Rattle.claims.proofs.Keeping.{num-emptied, length-emptied}
 use Rattle.claims.proofs.Effects.{add-says, revise-says, rekeyed, convert-says}
 use Rattle.claims.proofs.Traces.{one-next}
 use Rattle.claims.proofs.Checking.{Apart, apart-put}
@@ -35,14 +35,14 @@ module _ (o w : List ℕ) (bo : Bytes o) (bw : Bytes w) (s : List ℕ) (g : Soun
   added-apart n t hn bt (At k) e =
       let c = add-says o w s n t k e in
       apart-put s k (c .within) (sheet w n 1 t) (length-sheet w n 1 t bw bt (c .fits)) a
-      (λ j hj nj z q. find-lowest s n j (omega (arith, c .new)) (q ∙ num-sheet w n 1 t bw bt (c .fits) hn))
+      (λ j hj nj z q. find-lowest s n j (omega (arith, c .new)) (q ∙ num-sheet w n 1 t hn))
 
   revised-apart : (n v : ℕ) (t : List ℕ) → n < 4294967296 → Bytes t → (p : Plan) → revisePlan o w s n v t ≡ p → Apart (reviseStore w s n t p)
   revised-apart n v t hn bt (Refuse x) e = a
   revised-apart n v t hn bt (At k) e =
       let c = revise-says o w s n v t k e in
       let x : List ℕ = sheet w n (rev (slot s k) + 1) t in
-      let m : num x ≡ n = num-sheet w n (rev (slot s k) + 1) t bw bt (c .fits) hn in
+      let m : num x ≡ n = num-sheet w n (rev (slot s k) + 1) t hn in
       apart-put s k (c .within) x (length-sheet w n (rev (slot s k) + 1) t bw bt (c .fits)) a
       (λ j hj nj z q. nj (a j k hj (c .within) (λ y. z (sym q ∙ y)) (q ∙ m ∙ sym (c .number))))
 

@@ -4,3 +4,4 @@ pub mod FindLaws
 pub mod WriteLaws
 pub mod TextLaws
 pub mod RecordLaws
+pub mod SheetLaws

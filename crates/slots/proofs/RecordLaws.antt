@@ -2,7 +2,7 @@
 -- key is the text that it was written with.
 -- Assumes nothing.
 use mathlib.Core.Path.{_≡_, refl, sym, ap, ap₂, _∙_}
-use mathlib.Core.Bool.{true, false}
+use mathlib.Core.Bool.{true}
 use mathlib.Core.List.{List, _++_}
 use Prim.Native.Nat.{ℕ, zero, suc, _+_, _-_, _/_, _%_, _≤_, _<_}
 use native.Mathlib.Omega.{arith}
@@ -11,14 +11,10 @@ use lib.ListN.{length, take, drop, replicate, length-append, length-replicate}
 use lib.Seq.{take-at, drop-at, drop-drop}
 use Rattle.block.specs.Bytes.{Bytes}
 use Rattle.block.specs.Tab.{byte}
-use Rattle.block.proofs.BytesLaws.{bytes-cons, bytes-zeros, bytes-append}
-use Rattle.eme2.specs.Transform.{afterwards}
-use Rattle.eme2.proofs.Promise.{length-kept, bytes-kept, undone}
+use Rattle.block.proofs.BytesLaws.{bytes-cons, bytes-zeros}
 use Rattle.slots.specs.Record.{num, rev, mark, len, leadOf, stored, allZero, sound, lead, recordOf}
-use Rattle.slots.specs.Text.{textOf, sheet}
 use Rattle.slots.proofs.FieldLaws.{sound-taken, used-last}
 use Rattle.slots.proofs.WriteLaws.{length-lead}
-use Rattle.slots.proofs.TextLaws.{text-new}
 
 pub allZero-zeros : (n : ℕ) → allZero (replicate n 0) ≡ true
 unfolding allZero
@@ -99,28 +95,3 @@ module _ (n v m : ℕ) (t : List ℕ) where
         sound-taken r (λ q. z (sym (num-record hn) ∙ q))
         ∙ used-last r (omega (arith, rev-record kv)) (omega (arith, mark-record)) spare (omega (arith, len-record)) (omega (arith, len-record)) spares
         ∙ rest
-
--- a sheet is a record of bytes
-pub bytes-sheet : (w : List ℕ) (n v : ℕ) (t : List ℕ) → Bytes w → Bytes t → Bytes (sheet w n v t)
-unfolding sheet recordOf
-bytes-sheet w n v t bw bt =
-    let x : List ℕ = afterwards false w (lead n v 2 (length t)) t in
-    let bx : Bytes x = bytes-kept false w (lead n v 2 (length t)) t bw (bytes-lead n v 2 (length t) (lit< tt)) bt in
-    bytes-append (lead n v 2 (length x)) (x ++ replicate (2096 - length x) 0) (bytes-lead n v 2 (length x) (lit< tt))
-    (bytes-append x (replicate (2096 - length x) 0) bx (bytes-zeros (2096 - length x)))
-
--- what add and revise store, read gives back
-pub sheet-text : (o w : List ℕ) (n v : ℕ) (t : List ℕ) → Bytes w → Bytes t → length t ≤ 2096 → textOf o w (sheet w n v t) ≡ t
-unfolding sheet
-sheet-text o w n v t bw bt h =
-    let d : List ℕ = lead n v 2 (length t) in
-    let x : List ℕ = afterwards false w d t in
-    let bd : Bytes d = bytes-lead n v 2 (length t) (lit< tt) in
-    let lx : length x ≡ length t = length-kept false w d t bw bd bt in
-    let hx : length x ≤ 2096 = omega arith in
-    let r : List ℕ = recordOf n v 2 x in
-    let m : mark r ≡ 2 = mark-record n v 2 x in
-    let e : leadOf r ≡ d = lead-record n v 2 x ∙ ap (lead n v 2) lx in
-    text-new r o w (λ q. let z : ⊥ = omega arith in z) (λ q. let z : ⊥ = omega arith in z)
-    ∙ ap₂ (afterwards true w) e (stored-record n v 2 x hx)
-    ∙ undone false w d t bw bd bt

@@ -19,7 +19,8 @@ use Rattle.store.specs.declared.Plan.the-variants.{Refuse, At}
 use Rattle.store.specs.declared.Refusal.the-variants.{OtherRevision, SheetThere}
 use Rattle.store.specs.Plans.{badSize, badText, absent, reviseAtPlan, revisePlan, addPlan}
 use Rattle.store.proofs.PlanLaws.{yes, no, passed, slotOf, there, text-fits, long-enough}
-use Rattle.store.proofs.RoundTrip.{length-sheet, number-back, revision-back, sound-back}
+use Rattle.slots.proofs.SheetLaws.{length-sheet}
+use Rattle.store.proofs.RoundTrip.{number-back, revision-back, sound-back}
 
 -- a store with another record in one of its slots
 module _ (s : List ℕ) (k : ℕ) (h : k < slots s) (x : List ℕ) (l : length x ≡ 2112) where
