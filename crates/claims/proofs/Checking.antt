@@ -14,8 +14,8 @@ use Rattle.slots.specs.Slots.{slots, slot, put, lowest, find}
 use Rattle.slots.proofs.FindLaws.{find-has, find-lowest, lowest-has, lowest-below}
 use Rattle.store.specs.declared.Checked.{Checked}
 use Rattle.store.specs.declared.Checked.the-variants.{Counts, Fault, Refused}
-use Rattle.store.specs.declared.Refusal.the-variants.{StoreSize}
-use Rattle.store.specs.Plans.{badSize}
+use Rattle.plans.specs.declared.Refusal.the-variants.{StoreSize}
+use Rattle.plans.specs.Plans.{badSize}
 use Rattle.store.specs.Calls.{faulty, firstFault, counts, checkAnswer}
 use Rattle.claims.specs.Claims.{Passes}
 use Rattle.claims.proofs.Simulation.{SoundStore}

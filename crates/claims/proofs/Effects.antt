@@ -22,13 +22,13 @@ use Rattle.slots.proofs.FieldLaws.{sound-len, sound-fields, num-bound, rev-boun
 use Rattle.slots.proofs.FindLaws.{find-has, length-slot}
 use Rattle.slots.proofs.SheetLaws.{num-sheet, rev-sheet, length-sheet, sound-sheet, bytes-sheet}
 use Rattle.slots.proofs.TextLaws.{length-textOf}
-use Rattle.store.specs.declared.Plan.{Plan}
-use Rattle.store.specs.declared.Plan.the-variants.{Refuse, At}
+use Rattle.plans.specs.declared.Plan.{Plan}
+use Rattle.plans.specs.declared.Plan.the-variants.{Refuse, At}
 use Rattle.store.specs.declared.Outcome.{Outcome}
 use Rattle.store.specs.declared.Outcome.the-variants.{Done, Free, Damaged, Already, Converted}
-use Rattle.store.specs.Plans.{badKeys, absent, addPlan, revisePlan, reviseAtPlan, removePlan}
+use Rattle.plans.specs.Plans.{badKeys, absent, addPlan, revisePlan, reviseAtPlan, removePlan}
 use Rattle.store.specs.Calls.{addStore, reviseStore, removeStore, recordOutcome, outcomeAt, convertedAt, stepStore}
-use Rattle.store.proofs.PlanLaws.{passed, slotOf, there, text-fits, long-enough, remove-at}
+use Rattle.plans.proofs.PlanLaws.{passed, slotOf, there, text-fits, long-enough, remove-at}
 use Rattle.claims.specs.Plain.{Place, holding, revisionOf, at, afterAdd, afterRevise, afterRemove}
 use Rattle.claims.specs.View.{plain}
 use Rattle.claims.proofs.ViewLaws.{length-plain, put-plain}

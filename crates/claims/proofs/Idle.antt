@@ -11,9 +11,9 @@ use Rattle.block.specs.Bytes.{Bytes}
 use Rattle.slots.specs.Record.{num, rev, mark}
 use Rattle.slots.specs.Text.{textOf}
 use Rattle.slots.specs.Slots.{slots, slot, put}
-use Rattle.store.specs.declared.Plan.{Plan}
+use Rattle.plans.specs.declared.Plan.{Plan}
 use Rattle.store.specs.declared.Outcome.the-variants.{Converted}
-use Rattle.store.specs.Plans.{badKeys, stepPlan}
+use Rattle.plans.specs.Plans.{badKeys, stepPlan}
 use Rattle.store.specs.Calls.{marked, outcomeAt, movedFrom, convertedAt, stepAnswer, stepStore}
 use Rattle.slots.proofs.SheetLaws.{mark-sheet}
 use Rattle.store.proofs.StepLaws.{inside, is-converted}

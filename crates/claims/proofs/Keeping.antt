@@ -16,7 +16,7 @@ use Rattle.slots.specs.Slots.{slots, slot, put, emptied}
 use Rattle.slots.proofs.FieldLaws.{sound-free}
 use Rattle.slots.proofs.RecordLaws.{allZero-zeros}
 use Rattle.slots.proofs.SheetLaws.{num-sheet, rev-sheet, sheet-text}
-use Rattle.store.specs.Plans.{badSize}
+use Rattle.plans.specs.Plans.{badSize}
 use Rattle.claims.specs.Plain.{nothing, holding}
 use Rattle.claims.specs.View.{placeOf}
 use Rattle.claims.proofs.ViewLaws.{slot-other}

@@ -8,7 +8,7 @@ use native.Mathlib.Omega.{arith}
 use borrow.Author.Tests.{eqb-true, eqb-false, eq-eqb, ne-eqb}
 use lib.Dec.{eqb}
 use lib.ListN.{length}
-use Rattle.store.specs.Plans.{badKey, badKeys}
+use Rattle.plans.specs.Plans.{badKey, badKeys}
 use Rattle.claims.specs.Claims.{Key}
 
 -- what is left before Key2 and Key3 is m bytes, of which there are some, exactly where the whole is m + 32

@@ -17,12 +17,12 @@ use Rattle.slots.specs.Slots.{slots, slot, find}
 use Rattle.slots.proofs.FieldLaws.{sound-len}
 use Rattle.slots.proofs.FindLaws.{find-has, length-slot}
 use Rattle.slots.proofs.TextLaws.{length-textOf}
-use Rattle.store.specs.declared.Refusal.{Refusal}
-use Rattle.store.specs.declared.Refusal.the-variants.{SheetZero, TextLength, NoSheet, OtherRevision, LastRevision, NoRoom, SheetThere, BufferShort}
-use Rattle.store.specs.declared.Plan.{Plan}
-use Rattle.store.specs.declared.Plan.the-variants.{At}
-use Rattle.store.specs.Plans.{guard, badKeys, badSize, badText, absent, readAtPlan, readPlan, addPlan, reviseAtPlan, revisePlan, removePlan}
-use Rattle.store.proofs.PlanLaws.{no, there, not-changed}
+use Rattle.plans.specs.declared.Refusal.{Refusal}
+use Rattle.plans.specs.declared.Refusal.the-variants.{SheetZero, TextLength, NoSheet, OtherRevision, LastRevision, NoRoom, SheetThere, BufferShort}
+use Rattle.plans.specs.declared.Plan.{Plan}
+use Rattle.plans.specs.declared.Plan.the-variants.{At}
+use Rattle.plans.specs.Plans.{guard, badKeys, badSize, badText, absent, readAtPlan, readPlan, addPlan, reviseAtPlan, revisePlan, removePlan}
+use Rattle.plans.proofs.PlanLaws.{no, there, not-changed}
 use Rattle.claims.specs.Plain.{Place, nothing, holding, revisionOf, textIn, at, absentIn, findIn, readIn, addIn, reviseIn, removeIn}
 use Rattle.claims.specs.View.{placeOf, plain}
 use Rattle.claims.proofs.ViewLaws.{length-plain, at-plain, find-plain}

@@ -14,7 +14,7 @@ use Rattle.block.proofs.BytesLaws.{bytes-zeros, bytes-append}
 use Rattle.slots.specs.Record.{num, mark, sound, recordOf, lead}
 use Rattle.slots.specs.Slots.{slots, slot}
 use Rattle.slots.proofs.RecordLaws.{num-record, mark-record, sound-record, length-record, bytes-lead}
-use Rattle.store.specs.Plans.{badSize}
+use Rattle.plans.specs.Plans.{badSize}
 use Rattle.claims.specs.Claims.{Passes}
 use Rattle.claims.proofs.Simulation.{SoundStore}
 use Rattle.claims.proofs.Checking.{Apart, good-passes}

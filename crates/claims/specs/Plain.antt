@@ -8,16 +8,16 @@ use Prim.Native.Nat.{ℕ, _+_}
 use lib.Dec.{eqb, ltb}
 use lib.ListN.{length, getD, drop, set}
 use Rattle.slots.specs.Slots.{lowest}
-use Rattle.store.specs.declared.Refusal.the-variants.{SheetZero, TextLength, NoSheet, OtherRevision, LastRevision, NoRoom, SheetThere, BufferShort}
-use Rattle.store.specs.declared.Plan.{Plan}
-use Rattle.store.specs.declared.Plan.the-variants.{Refuse, At}
+use Rattle.plans.specs.declared.Refusal.the-variants.{SheetZero, TextLength, NoSheet, OtherRevision, LastRevision, NoRoom, SheetThere, BufferShort}
+use Rattle.plans.specs.declared.Plan.{Plan}
+use Rattle.plans.specs.declared.Plan.the-variants.{Refuse, At}
 use Rattle.store.specs.declared.Text.{Text}
 use Rattle.store.specs.declared.Text.the-variants as text
 use Rattle.store.specs.declared.Stored.{Stored}
 use Rattle.store.specs.declared.Stored.the-variants as stored
 use Rattle.store.specs.declared.Removed.{Removed}
 use Rattle.store.specs.declared.Removed.the-variants as removed
-use Rattle.store.specs.Plans.{guard, badText}
+use Rattle.plans.specs.Plans.{guard, badText}
 
 pub data Place : Type 0 where
   nothing : Place

@@ -18,7 +18,7 @@ use Rattle.store.specs.declared.Outcome.{Outcome}
 use Rattle.store.specs.declared.Outcome.the-variants as outcome
 use Rattle.store.specs.declared.Stepped.{Stepped}
 use Rattle.store.specs.declared.Stepped.the-variants as stepped
-use Rattle.store.specs.Plans.{paper, readPlan, addPlan, revisePlan, removePlan, stepPlan}
+use Rattle.plans.specs.Plans.{paper, readPlan, addPlan, revisePlan, removePlan, stepPlan}
 use Rattle.store.specs.Calls.{checkAnswer, readAnswer, readBuffer, addAnswer, addStore, reviseAnswer, reviseStore, removeAnswer, removeStore, stepAnswer, stepStore}
 
 -- ---- check: 0 with the five counts, or 256 with the lowest faulty slot, or 4

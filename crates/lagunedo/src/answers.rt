@@ -1,11 +1,11 @@
 // What the store's calls answer, as numbers by value: 01's number, and for each pointer of the call what is to stand behind it. The calls for C
 // then only write them there.
 ghost use mathlib.Core.Path.{_≡_};
-ghost use Rattle.store.specs.Plans.{paper};
+ghost use Rattle.plans.specs.Plans.{paper};
 ghost use Rattle.lagunedo.specs.Sheets.{CheckedForC, ReadForC, AddForC, ReviseForC, RemoveForC, outcomeNumber, StepForC};
 use store::Checked;
 use store::Outcome;
-use store::Refusal;
+use plans::Refusal;
 use store::Removed;
 use store::Stepped;
 use store::Stored;

@@ -12,9 +12,9 @@ use Rattle.slots.specs.Record.{num, rev, mark, len}
 use Rattle.slots.specs.Slots.{slots, slot}
 use Rattle.store.specs.declared.Checked.{Checked}
 use Rattle.store.specs.declared.Checked.the-variants.{Fault, Refused}
-use Rattle.store.specs.declared.Refusal.{Refusal}
-use Rattle.store.specs.declared.Refusal.the-variants.{StoreSize}
-use Rattle.store.specs.Plans.{paper, badSize}
+use Rattle.plans.specs.declared.Refusal.{Refusal}
+use Rattle.plans.specs.declared.Refusal.the-variants.{StoreSize}
+use Rattle.plans.specs.Plans.{paper, badSize}
 use Rattle.store.specs.Calls.{firstFault, counts, checkAnswer}
 use Rattle.store.proofs.CheckLaws.{used-not, used-so}
 use Rattle.lines.specs.Laid.{Laid}

@@ -11,7 +11,7 @@ use Rattle.slots.specs.Record.{num, rev, mark, len}
 use Rattle.slots.specs.Slots.{slots, slot}
 use Rattle.store.specs.declared.Checked.{Checked}
 use Rattle.store.specs.declared.Checked.the-variants.{Counts, Fault, Refused}
-use Rattle.store.specs.Plans.{paper}
+use Rattle.plans.specs.Plans.{paper}
 use Rattle.store.specs.Calls.{used, checkAnswer}
 use Rattle.lines.specs.Decimal.{decimal}
 use Rattle.lines.specs.Laid.{overlay}

@@ -12,10 +12,10 @@ use lib.ListN.{length}
 use Rattle.slots.specs.Record.{num, mark, sound}
 use Rattle.slots.specs.Slots.{slots, slot, scan, lowest, tally, find}
 use Rattle.slots.proofs.FindLaws.{scan-start, tally-le, tally-not}
-use Rattle.store.specs.declared.Refusal.the-variants.{StoreSize}
+use Rattle.plans.specs.declared.Refusal.the-variants.{StoreSize}
 use Rattle.store.specs.declared.Checked.{Checked}
 use Rattle.store.specs.declared.Checked.the-variants as checked
-use Rattle.store.specs.Plans.{badSize}
+use Rattle.plans.specs.Plans.{badSize}
 use Rattle.store.specs.Calls.{faulty, firstFault, used, marked, counted, counts, checkAnswer}
 
 -- ---- a store of a size that is taken

@@ -1,6 +1,6 @@
 -- A call that had run and is made again: a revision is refused with 8, and an add with 11, while nothing else came between.
 -- Assumes nothing.
-use mathlib.Core.Path.{_≡_, ap, _∙_}
+use mathlib.Core.Path.{_≡_, refl, sym, ap, _∙_}
 use mathlib.Core.Bool.{true, false, not, _||_}
 use mathlib.Core.List.{List}
 use Prim.Native.Nat.{ℕ, _+_, _/_, _%_, _≤_, _<_}
@@ -15,11 +15,15 @@ use Rattle.slots.specs.Text.{sheet}
 use Rattle.slots.specs.Slots.{slots, slot, put, find}
 use Rattle.slots.proofs.FieldLaws.{rev-bound}
 use Rattle.slots.proofs.FindLaws.{hasNum, lowest-is, find-lowest}
-use Rattle.store.specs.declared.Plan.the-variants.{Refuse, At}
-use Rattle.store.specs.declared.Refusal.the-variants.{OtherRevision, SheetThere}
-use Rattle.store.specs.Plans.{badSize, badText, absent, reviseAtPlan, revisePlan, addPlan}
-use Rattle.store.proofs.PlanLaws.{yes, no, passed, slotOf, there, text-fits, long-enough}
 use Rattle.slots.proofs.SheetLaws.{length-sheet}
+use Rattle.plans.specs.declared.Plan.{Plan}
+use Rattle.plans.specs.declared.Plan.the-variants.{Refuse, At}
+use Rattle.plans.specs.declared.Refusal.the-variants.{OtherRevision, SheetThere}
+use Rattle.plans.specs.Plans.{badSize, badText, absent, reviseAtPlan, revisePlan, addPlan}
+use Rattle.plans.proofs.PlanLaws.{yes, no, passed, slotOf, there, text-fits, long-enough, revise-at}
+use Rattle.store.specs.declared.Stored.{Stored}
+use Rattle.store.specs.declared.Stored.the-variants as stored
+use Rattle.store.specs.Calls.{addAnswer, addStore, reviseAnswer, reviseStore}
 use Rattle.store.proofs.RoundTrip.{number-back, revision-back, sound-back}
 
 -- a store with another record in one of its slots
@@ -46,10 +50,10 @@ module _ (s : List ℕ) (k : ℕ) (h : k < slots s) (x : List ℕ) (l : length x
 
 module _ (o w s : List ℕ) (n : ℕ) (t : List ℕ) (k : ℕ) (bw : Bytes w) (bs : Bytes s) (bt : Bytes t) (hn : n < 4294967296) where
   -- a revision accepted and then tried again, with whatever text, finds another revision
-  pub revise-again : (v : ℕ) (t′ : List ℕ) → badText t′ ≡ false → revisePlan o w s n v t ≡ At k
+  another-revision : (v : ℕ) (t′ : List ℕ) → badText t′ ≡ false → revisePlan o w s n v t ≡ At k
       → revisePlan o w (put s k (sheet w n (v + 1) t)) n v t′ ≡ Refuse OtherRevision
   unfolding revisePlan reviseAtPlan
-  revise-again v t′ b e =
+  another-revision v t′ b e =
       let p1 = passed _ _ _ k e in
       let p2 = passed _ _ _ k (p1 .1) in
       let p3 = passed _ _ _ k (p2 .1) in
@@ -81,9 +85,9 @@ module _ (o w s : List ℕ) (n : ℕ) (t : List ℕ) (k : ℕ) (bw : Bytes w) (b
       ∙ yes _ _ _ (ap (λ (j : ℕ). not (eqb v (rev (slot (put s k x) j)))) g ∙ ap not (ne-eqb v (rev (slot (put s k x) k)) (λ q. let y : ⊥ = omega arith in y)))
 
   -- an add accepted and then tried again, with whatever text, finds the sheet there
-  pub add-again : (t′ : List ℕ) → badText t′ ≡ false → addPlan o w s n t ≡ At k → addPlan o w (put s k (sheet w n 1 t)) n t′ ≡ Refuse SheetThere
+  sheet-there : (t′ : List ℕ) → badText t′ ≡ false → addPlan o w s n t ≡ At k → addPlan o w (put s k (sheet w n 1 t)) n t′ ≡ Refuse SheetThere
   unfolding addPlan
-  add-again t′ b e =
+  sheet-there t′ b e =
       let p1 = passed _ _ _ k e in
       let p2 = passed _ _ _ k (p1 .1) in
       let p3 = passed _ _ _ k (p2 .1) in
@@ -103,3 +107,52 @@ module _ (o w s : List ℕ) (n : ℕ) (t : List ℕ) (k : ℕ) (bw : Bytes w) (b
       ∙ no _ _ _ (p3 .0)
       ∙ no _ _ _ b
       ∙ yes _ _ _ (ap not (present s k h x l n g))
+
+-- ---- an answer that is a revision comes of a plan that ends at a slot
+
+abbrev accepts : Stored → ℕ
+accepts (stored.Revision v) = 1
+accepts (stored.Refused x) = 0
+
+added-at : (p : Plan) (r : ℕ) → addAnswer p ≡ stored.Revision r → p ≡ At (slotOf p)
+added-at (Refuse x) r e =
+    let z : _≡_ {A = ℕ} 0 1 = ap accepts e in
+    let y : ⊥ = omega arith in
+    absurd y
+added-at (At k) r e = refl
+
+revised-at : (s : List ℕ) (p : Plan) (r : ℕ) → reviseAnswer s p ≡ stored.Revision r → p ≡ At (slotOf p)
+revised-at s (Refuse x) r e =
+    let z : _≡_ {A = ℕ} 0 1 = ap accepts e in
+    let y : ⊥ = omega arith in
+    absurd y
+revised-at s (At k) r e = refl
+
+-- ---- a call that was accepted and is made again on the store that it left, with any text of a length that is taken
+
+module _ (o w s : List ℕ) (n : ℕ) (t : List ℕ) (bw : Bytes w) (bs : Bytes s) (bt : Bytes t) (hn : n < 4294967296) (t′ : List ℕ) (g : badText t′ ≡ false) where
+  -- a revision, of the revision v that the operator saw: 8
+  module _ (v : ℕ) where
+    abbrev revised : List ℕ
+    revised = reviseStore w s n t (revisePlan o w s n v t)
+
+    pub revise-again : (r : ℕ) → reviseAnswer s (revisePlan o w s n v t) ≡ stored.Revision r
+        → reviseAnswer revised (revisePlan o w revised n v t′) ≡ stored.Refused OtherRevision
+    revise-again r e =
+        let k : ℕ = slotOf (revisePlan o w s n v t) in
+        let p : revisePlan o w s n v t ≡ At k = revised-at s (revisePlan o w s n v t) r e in
+        let q : v ≡ rev (slot s k) = revise-at o w s n v t k p .2 in
+        let left : revised ≡ put s k (sheet w n (v + 1) t) =
+        ap (reviseStore w s n t) p ∙ ap (λ (x : ℕ). put s k (sheet w n (x + 1) t)) (sym q) in
+        ap (reviseAnswer revised) (ap (λ (x : List ℕ). revisePlan o w x n v t′) left ∙ another-revision o w s n t k bw bs bt hn v t′ g p)
+
+  -- an add: 11
+  abbrev added : List ℕ
+  added = addStore w s n t (addPlan o w s n t)
+
+  pub add-again : (r : ℕ) → addAnswer (addPlan o w s n t) ≡ stored.Revision r → addAnswer (addPlan o w added n t′) ≡ stored.Refused SheetThere
+  add-again r e =
+      let k : ℕ = slotOf (addPlan o w s n t) in
+      let p : addPlan o w s n t ≡ At k = added-at (addPlan o w s n t) r e in
+      let left : added ≡ put s k (sheet w n 1 t) = ap (addStore w s n t) p in
+      ap addAnswer (ap (λ (x : List ℕ). addPlan o w x n t′) left ∙ sheet-there o w s n t k bw bs bt hn t′ g p)

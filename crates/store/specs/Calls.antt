@@ -10,9 +10,9 @@ use lib.ListN.{length, drop}
 use Rattle.slots.specs.Record.{num, rev, mark, len, sound}
 use Rattle.slots.specs.Text.{textOf, sheet}
 use Rattle.slots.specs.Slots.{slots, slot, put, emptied, lowest, tally, find}
-use Rattle.store.specs.declared.Refusal.the-variants.{StoreSize}
-use Rattle.store.specs.declared.Plan.{Plan}
-use Rattle.store.specs.declared.Plan.the-variants.{Refuse, At}
+use Rattle.plans.specs.declared.Refusal.the-variants.{StoreSize}
+use Rattle.plans.specs.declared.Plan.{Plan}
+use Rattle.plans.specs.declared.Plan.the-variants.{Refuse, At}
 use Rattle.store.specs.declared.Checked.{Checked}
 use Rattle.store.specs.declared.Checked.the-variants as checked
 use Rattle.store.specs.declared.Text.{Text}
@@ -25,7 +25,7 @@ use Rattle.store.specs.declared.Outcome.{Outcome}
 use Rattle.store.specs.declared.Outcome.the-variants as outcome
 use Rattle.store.specs.declared.Stepped.{Stepped}
 use Rattle.store.specs.declared.Stepped.the-variants as stepped
-use Rattle.store.specs.Plans.{badSize, readPlan, addPlan, revisePlan, removePlan, stepPlan}
+use Rattle.plans.specs.Plans.{badSize, readPlan, addPlan, revisePlan, removePlan, stepPlan}
 
 -- ---- check
 

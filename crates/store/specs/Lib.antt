@@ -1,3 +1,2 @@
--- The calls of the store: their ladders of refusals, and what they promise.
-pub mod Plans
+-- The calls of the store: what they answer, and the bytes afterwards.
 pub mod Calls

@@ -4,8 +4,8 @@ ghost use Prim.Native.Nat.{_<_};
 ghost use Rattle.slots.specs.Slots.{slots, slot};
 ghost use Rattle.store.specs.Calls.{faulty, firstFault, used, marked, counted, CheckCalled};
 use super::Checked;
-use super::Refusal;
-use super::plans::bad_size;
+use plans::Refusal;
+use plans::bad_size;
 use slots::count;
 use slots::number_at;
 

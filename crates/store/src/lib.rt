@@ -1,11 +1,9 @@
 // The sheet store of 01 in lent bytes: check, read, add, revise, remove, and one step of the rekeying job, by value.
 //
-// Every call answers any bytes, keys and numbers. Its ladder of refusals is a function of its own that only reads (`plans`), and the call does
-// what the plan says. Contracts cite `specs/Calls.antt`: what a call answers and the bytes afterwards, by equations.
+// Every call answers any bytes, keys and numbers. Its ladder of refusals is a function that only reads (crate `plans`), and the call does what the plan
+// says. Contracts cite `specs/Calls.antt`: what a call answers and the bytes afterwards, by equations.
 // Check.
 mod checking;
-// The ladders of refusals.
-mod plans;
 // Read.
 mod reading;
 // One step of the rekeying job.
@@ -13,36 +11,13 @@ mod stepping;
 // Add, revise and remove.
 mod writing;
 
+use plans::Refusal;
 pub use checking::check;
 pub use reading::read;
 pub use stepping::step_at;
 pub use writing::add;
 pub use writing::remove;
 pub use writing::revise;
-
-// 01's numbers 1 to 14, also those that the store cannot meet: 2 and 3 are the transform's own, and 14 is shown impossible.
-pub enum Refusal {
-    KeyLength,
-    MessageLength,
-    DataLength,
-    StoreSize,
-    SheetZero,
-    TextLength,
-    NoSheet,
-    OtherRevision,
-    LastRevision,
-    NoRoom,
-    SheetThere,
-    Unsound,
-    BufferShort,
-    LengthChanged,
-}
-
-// What a ladder comes to: a refusal, or the slot to work on.
-pub enum Plan {
-    Refuse(Refusal),
-    At(usize),
-}
 
 // What check answers: the five counts of a sound store, or the lowest faulty slot.
 pub enum Checked {

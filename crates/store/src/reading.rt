@@ -7,9 +7,9 @@ ghost use Rattle.slots.specs.Record.{rev, len};
 ghost use Rattle.slots.specs.Text.{textOf};
 ghost use Rattle.slots.specs.Slots.{slots, slot};
 ghost use Rattle.store.specs.Calls.{ReadCalled};
-use super::Plan;
 use super::Text;
-use super::plans::read_plan;
+use plans::Plan;
+use plans::read_plan;
 
 pub fn read(old: &[u8], new: &[u8], store: &[u8], sheet: u32, text: &mut [u8]) -> Text
     ensures { λ a. ⌜ ReadCalled (now (old .entry)) (now (new .entry)) (now (store .entry)) sheet (now (text .entry)) a (now (text .exit)) ⌝ }

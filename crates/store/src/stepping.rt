@@ -2,9 +2,9 @@
 ghost use mathlib.Core.Path.{_≡_};
 ghost use Rattle.store.specs.Calls.{outcomeAt, movedFrom, convertedAt, StepCalled};
 use super::Outcome;
-use super::Plan;
 use super::Stepped;
-use super::plans::step_plan;
+use plans::Plan;
+use plans::step_plan;
 use slots::count;
 
 pub fn step_at(old: &[u8], new: &[u8], store: &mut [u8], place: usize) -> Stepped

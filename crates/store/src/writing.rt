@@ -4,12 +4,12 @@ ghost use Prim.Native.Nat.{_<_};
 ghost use Rattle.slots.specs.Record.{rev};
 ghost use Rattle.slots.specs.Slots.{slots, slot};
 ghost use Rattle.store.specs.Calls.{AddCalled, ReviseCalled, RemoveCalled};
-use super::Plan;
 use super::Removed;
 use super::Stored;
-use super::plans::add_plan;
-use super::plans::remove_plan;
-use super::plans::revise_plan;
+use plans::Plan;
+use plans::add_plan;
+use plans::remove_plan;
+use plans::revise_plan;
 use slots::put_sheet_at;
 
 // The lowest slot whose sheet number is 0 becomes the sheet at revision 1, under the new key.

@@ -5,7 +5,7 @@ use mathlib.Core.Bool.{false}
 use mathlib.Core.List.{List}
 use Prim.Native.Nat.{ℕ, _-_, _≤_}
 use native.Mathlib.Omega.{arith}
-use Rattle.store.specs.Plans.{badSize}
+use Rattle.plans.specs.Plans.{badSize}
 use Rattle.slots.specs.Slots.{slots}
 use Rattle.store.specs.Calls.{used, marked}
 use Rattle.store.proofs.CheckLaws.{bad-size-false, counted-le, check-refused, check-fault, check-counts, free-count, counts-of}

@@ -1,11 +1,11 @@
 -- `store::reading::read` meets its contract: what the plan says is done.
 -- Assumes nothing.
 use mathlib.Core.Path.{_≡_, sym, ap, _∙_}
-use Rattle.store.specs.declared.Plan.the-variants.{Refuse, At}
+use Rattle.plans.specs.declared.Plan.the-variants.{Refuse, At}
 use lib.ListN.{length}
-use Rattle.store.specs.Plans.{readPlan}
+use Rattle.plans.specs.Plans.{readPlan}
 use Rattle.store.specs.Calls.{readAnswer, readBuffer}
-use Rattle.store.proofs.PlanLaws.{read-at}
+use Rattle.plans.proofs.PlanLaws.{read-at}
 use borrow.Author.Needs.{needs}
 use Rattle.store.proofs.reading.read.Statement.{statement}
 use Rattle.store.proofs.reading.read.Tie as tie

@@ -1,8 +1,8 @@
 -- `store::stepping::step_at` meets its contract: what the plan says is done.
 -- Assumes nothing.
 use mathlib.Core.Path.{_≡_, sym, ap, _∙_}
-use Rattle.store.specs.declared.Plan.the-variants.{Refuse, At}
-use Rattle.store.specs.Plans.{stepPlan}
+use Rattle.plans.specs.declared.Plan.the-variants.{Refuse, At}
+use Rattle.plans.specs.Plans.{stepPlan}
 use Rattle.store.specs.Calls.{stepAnswer, stepStore}
 use borrow.Author.Needs.{needs}
 use Rattle.store.proofs.stepping.step_at.Statement.{statement}

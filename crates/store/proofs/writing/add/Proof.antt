@@ -1,10 +1,10 @@
 -- `store::writing::add` meets its contract: what the plan says is done.
 -- Assumes nothing.
 use mathlib.Core.Path.{_≡_, sym, ap, _∙_}
-use Rattle.store.specs.declared.Plan.the-variants.{Refuse, At}
-use Rattle.store.specs.Plans.{addPlan}
+use Rattle.plans.specs.declared.Plan.the-variants.{Refuse, At}
+use Rattle.plans.specs.Plans.{addPlan}
 use Rattle.store.specs.Calls.{addAnswer, addStore}
-use Rattle.store.proofs.PlanLaws.{add-at}
+use Rattle.plans.proofs.PlanLaws.{add-at}
 use borrow.Author.Needs.{needs}
 use Rattle.store.proofs.writing.add.Statement.{statement}
 use Rattle.store.proofs.writing.add.Tie as tie

@@ -1,10 +1,10 @@
 -- `store::writing::remove` meets its contract: what the plan says is done.
 -- Assumes nothing.
 use mathlib.Core.Path.{_≡_, sym, ap, _∙_}
-use Rattle.store.specs.declared.Plan.the-variants.{Refuse, At}
-use Rattle.store.specs.Plans.{removePlan}
+use Rattle.plans.specs.declared.Plan.the-variants.{Refuse, At}
+use Rattle.plans.specs.Plans.{removePlan}
 use Rattle.store.specs.Calls.{removeAnswer, removeStore}
-use Rattle.store.proofs.PlanLaws.{remove-at}
+use Rattle.plans.proofs.PlanLaws.{remove-at}
 use borrow.Author.Needs.{needs}
 use Rattle.store.proofs.writing.remove.Statement.{statement}
 use Rattle.store.proofs.writing.remove.Tie as tie

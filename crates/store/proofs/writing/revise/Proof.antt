@@ -3,7 +3,7 @@
 use mathlib.Core.Path.{_≡_, sym, ap, _∙_}
 use mathlib.Core.List.{List}
 use Prim.Native.Nat.{ℕ, _+_, _≤_, _<_}
-use Rattle.store.specs.declared.Plan.the-variants.{Refuse, At}
+use Rattle.plans.specs.declared.Plan.the-variants.{Refuse, At}
 use native.Mathlib.Omega.{arith}
 use lib.ListN.{length}
 use Rattle.block.specs.Bytes.{Bytes}
@@ -13,9 +13,9 @@ use Rattle.slots.specs.Text.{sheet}
 use Rattle.slots.specs.Slots.{slots, slot, put}
 use Rattle.slots.proofs.FieldLaws.{rev-bound}
 use Rattle.store.specs.declared.Stored.the-variants.{Revision}
-use Rattle.store.specs.Plans.{revisePlan}
+use Rattle.plans.specs.Plans.{revisePlan}
 use Rattle.store.specs.Calls.{reviseAnswer, reviseStore}
-use Rattle.store.proofs.PlanLaws.{revise-at}
+use Rattle.plans.proofs.PlanLaws.{revise-at}
 use borrow.Author.Needs.{needs}
 use Rattle.store.proofs.writing.revise.Statement.{statement}
 use Rattle.store.proofs.writing.revise.Tie as tie

@@ -1,0 +1,2 @@
+-- The ladders of refusals of the store's calls.
+pub mod Plans
