@@ -9,14 +9,14 @@ use borrow.Author.Tests.{eqb-true, eqb-false, ltb-false, le-ltb}
 use lib.Dec.{eqb, ltb}
 use lib.ListN.{length}
 use Rattle.block.specs.Bytes.{Bytes}
-use Rattle.slots.specs.Record.{num, sound}
+use Rattle.records.specs.Record.{num, sound}
 use Rattle.slots.specs.Slots.{slots, slot, put, lowest, find}
 use Rattle.slots.proofs.FindLaws.{find-has, find-lowest, lowest-has, lowest-below}
-use Rattle.store.specs.declared.Checked.{Checked}
-use Rattle.store.specs.declared.Checked.the-variants.{Counts, Fault, Refused}
 use Rattle.plans.specs.declared.Refusal.the-variants.{StoreSize}
 use Rattle.plans.specs.Plans.{badSize}
-use Rattle.store.specs.Calls.{faulty, firstFault, counts, checkAnswer}
+use Rattle.checking.specs.declared.Checked.{Checked}
+use Rattle.checking.specs.declared.Checked.the-variants.{Counts, Fault, Refused}
+use Rattle.checking.specs.Check.{faulty, firstFault, counts, checkAnswer}
 use Rattle.claims.specs.Claims.{Passes}
 use Rattle.claims.proofs.Simulation.{SoundStore}
 use Rattle.claims.proofs.Keeping.{slots-put, slot-put}

@@ -7,8 +7,8 @@ use mathlib.Core.List.{List}
 use Prim.Native.Nat.{ℕ, _<_}
 use Rattle.block.specs.Bytes.{Bytes}
 use Rattle.slots.specs.Slots.{slots}
-use Rattle.store.specs.declared.Stored.the-variants.{Revision}
 use Rattle.plans.specs.Plans.{badKeys}
+use Rattle.store.specs.declared.Stored.the-variants.{Revision}
 use Rattle.claims.specs.View.{plain}
 use Rattle.claims.specs.Machine.{Event, revising, AllAllowed, ofStored, State, storeStep, answers, final, listAnswers, listFinal}
 use Rattle.claims.specs.Claims.{Key, Passes, LastSlotClaim, KeepsOthers, onlyTheFirst, everySlot, eventAt, answerAt, RemovedAt}

@@ -15,20 +15,21 @@ use Rattle.block.proofs.BytesLaws.{bytes-zeros, bytes-take, bytes-drop}
 use Rattle.block.proofs.RowLaws.{bytes-row}
 use Rattle.eme2.specs.Transform.{afterwards}
 use Rattle.eme2.proofs.Promise.{bytes-kept}
-use Rattle.slots.specs.Record.{num, rev, mark, len, leadOf, stored, sound}
-use Rattle.slots.specs.Text.{textOf, sheet}
+use Rattle.records.specs.Record.{num, rev, mark, len, leadOf, stored, sound}
+use Rattle.records.specs.Text.{textOf, sheet}
+use Rattle.records.proofs.FieldLaws.{sound-len, sound-fields, num-bound, rev-bound}
+use Rattle.records.proofs.SheetLaws.{num-sheet, rev-sheet, length-sheet, sound-sheet, bytes-sheet}
+use Rattle.records.proofs.TextLaws.{length-textOf}
 use Rattle.slots.specs.Slots.{slots, slot, emptied, find}
-use Rattle.slots.proofs.FieldLaws.{sound-len, sound-fields, num-bound, rev-bound}
-use Rattle.slots.proofs.FindLaws.{find-has, length-slot}
-use Rattle.slots.proofs.SheetLaws.{num-sheet, rev-sheet, length-sheet, sound-sheet, bytes-sheet}
-use Rattle.slots.proofs.TextLaws.{length-textOf}
+use Rattle.slots.proofs.FindLaws.{find-has}
+use Rattle.slots.proofs.SlotLaws.{length-slot}
 use Rattle.plans.specs.declared.Plan.{Plan}
 use Rattle.plans.specs.declared.Plan.the-variants.{Refuse, At}
+use Rattle.plans.specs.Plans.{badKeys, absent, addPlan, revisePlan, reviseAtPlan, removePlan}
+use Rattle.plans.proofs.PlanLaws.{passed, slotOf, there, text-fits, long-enough, remove-at}
 use Rattle.store.specs.declared.Outcome.{Outcome}
 use Rattle.store.specs.declared.Outcome.the-variants.{Done, Free, Damaged, Already, Converted}
-use Rattle.plans.specs.Plans.{badKeys, absent, addPlan, revisePlan, reviseAtPlan, removePlan}
 use Rattle.store.specs.Calls.{addStore, reviseStore, removeStore, recordOutcome, outcomeAt, convertedAt, stepStore}
-use Rattle.plans.proofs.PlanLaws.{passed, slotOf, there, text-fits, long-enough, remove-at}
 use Rattle.claims.specs.Plain.{Place, holding, revisionOf, at, afterAdd, afterRevise, afterRemove}
 use Rattle.claims.specs.View.{plain}
 use Rattle.claims.proofs.ViewLaws.{length-plain, put-plain}

@@ -8,14 +8,15 @@ use native.Mathlib.Omega.{arith}
 use borrow.Author.Tests.{eq-eqb, ne-eqb}
 use lib.Dec.{eqb}
 use Rattle.block.specs.Bytes.{Bytes}
-use Rattle.slots.specs.Record.{num, rev, mark}
-use Rattle.slots.specs.Text.{textOf}
+use Rattle.records.specs.Record.{num, rev, mark}
+use Rattle.records.specs.Text.{textOf}
+use Rattle.records.proofs.SheetLaws.{mark-sheet}
 use Rattle.slots.specs.Slots.{slots, slot, put}
 use Rattle.plans.specs.declared.Plan.{Plan}
-use Rattle.store.specs.declared.Outcome.the-variants.{Converted}
 use Rattle.plans.specs.Plans.{badKeys, stepPlan}
-use Rattle.store.specs.Calls.{marked, outcomeAt, movedFrom, convertedAt, stepAnswer, stepStore}
-use Rattle.slots.proofs.SheetLaws.{mark-sheet}
+use Rattle.checking.specs.Check.{marked}
+use Rattle.store.specs.declared.Outcome.the-variants.{Converted}
+use Rattle.store.specs.Calls.{outcomeAt, movedFrom, convertedAt, stepAnswer, stepStore}
 use Rattle.store.proofs.StepLaws.{inside, is-converted}
 use Rattle.claims.specs.Machine.{stepping, State, storeStep, placeAfter}
 use Rattle.claims.specs.Claims.{LastSlotClaim, KeepsOthers, onlyTheFirst, firstSlots, everySlot}

@@ -10,12 +10,12 @@ use lib.Dec.{eqb, ltb}
 use lib.ListN.{length, length-replicate}
 use Rattle.block.specs.Bytes.{Bytes}
 use Rattle.block.proofs.RowLaws.{length-putRow, row-put, bytes-putRow}
-use Rattle.slots.specs.Record.{num, rev, sound}
-use Rattle.slots.specs.Text.{textOf, sheet}
+use Rattle.records.specs.Record.{num, rev, sound}
+use Rattle.records.specs.Text.{textOf, sheet}
+use Rattle.records.proofs.FieldLaws.{sound-free}
+use Rattle.records.proofs.RecordLaws.{allZero-zeros}
+use Rattle.records.proofs.SheetLaws.{num-sheet, rev-sheet, sheet-text}
 use Rattle.slots.specs.Slots.{slots, slot, put, emptied}
-use Rattle.slots.proofs.FieldLaws.{sound-free}
-use Rattle.slots.proofs.RecordLaws.{allZero-zeros}
-use Rattle.slots.proofs.SheetLaws.{num-sheet, rev-sheet, sheet-text}
 use Rattle.plans.specs.Plans.{badSize}
 use Rattle.claims.specs.Plain.{nothing, holding}
 use Rattle.claims.specs.View.{placeOf}

@@ -9,17 +9,18 @@ use borrow.Author.Tests.{eqb-true, eqb-false, eq-eqb, leb-true, leb-false}
 use lib.Dec.{eqb, leb}
 use lib.ListN.{length}
 use Rattle.block.specs.Bytes.{Bytes}
-use Rattle.slots.specs.Record.{num, rev, mark, sound}
-use Rattle.slots.specs.Text.{textOf, sheet}
+use Rattle.records.specs.Record.{num, rev, mark, sound}
+use Rattle.records.specs.Text.{textOf, sheet}
+use Rattle.records.proofs.SheetLaws.{mark-sheet, length-sheet}
 use Rattle.slots.specs.Slots.{slots, slot, put, emptied}
 use Rattle.plans.specs.declared.Plan.{Plan}
 use Rattle.plans.specs.declared.Plan.the-variants.{Refuse, At}
+use Rattle.plans.specs.Plans.{badKeys, badSize, addPlan, revisePlan, removePlan, stepPlan}
+use Rattle.plans.proofs.PlanLaws.{no, remove-at}
+use Rattle.checking.specs.Check.{marked}
 use Rattle.store.specs.declared.Outcome.{Outcome}
 use Rattle.store.specs.declared.Outcome.the-variants.{Done, Free, Damaged, Already, Converted}
-use Rattle.plans.specs.Plans.{badKeys, badSize, addPlan, revisePlan, removePlan, stepPlan}
-use Rattle.store.specs.Calls.{marked, addStore, reviseStore, removeStore, recordOutcome, outcomeAt, movedFrom, convertedAt, stepAnswer, stepStore}
-use Rattle.plans.proofs.PlanLaws.{no, remove-at}
-use Rattle.slots.proofs.SheetLaws.{mark-sheet, length-sheet}
+use Rattle.store.specs.Calls.{addStore, reviseStore, removeStore, recordOutcome, outcomeAt, movedFrom, convertedAt, stepAnswer, stepStore}
 use Rattle.claims.specs.Machine.{Event, reading, adding, revising, removing, stepping, AllAllowed, State, storeStep, placeAfter, moved, next, final}
 use Rattle.claims.specs.Claims.{NoneLeft, stepsOf, LastSlotClaim}
 use Rattle.claims.proofs.ViewLaws.{slot-other}

@@ -11,21 +11,21 @@ use lib.Dec.{eqb}
 use lib.ListN.{length}
 use Rattle.block.specs.Bytes.{Bytes}
 use Rattle.block.proofs.RowLaws.{bytes-row}
-use Rattle.slots.specs.Record.{num, rev}
-use Rattle.slots.specs.Text.{sheet}
+use Rattle.records.specs.Record.{num, rev}
+use Rattle.records.specs.Text.{sheet}
+use Rattle.records.proofs.FieldLaws.{rev-bound}
+use Rattle.records.proofs.SheetLaws.{num-sheet, rev-sheet, length-sheet}
 use Rattle.slots.specs.Slots.{slots, slot, put, emptied, scan, find}
-use Rattle.slots.proofs.FieldLaws.{rev-bound}
-use Rattle.slots.proofs.SheetLaws.{num-sheet, rev-sheet, length-sheet}
 use Rattle.slots.proofs.FindLaws.{hasNum, find-has}
 use Rattle.plans.specs.declared.Plan.{Plan}
 use Rattle.plans.specs.declared.Plan.the-variants.{Refuse, At}
+use Rattle.plans.specs.Plans.{badKeys, addPlan, revisePlan, removePlan, stepPlan}
+use Rattle.plans.proofs.PlanLaws.{passed, slotOf, there, remove-at}
 use Rattle.store.specs.declared.Outcome.{Outcome}
 use Rattle.store.specs.declared.Outcome.the-variants.{Done, Free, Damaged, Already, Converted}
 use Rattle.store.specs.declared.Stored.the-variants.{Refused, Revision}
 use Rattle.store.specs.declared.Removed.the-variants as removed
-use Rattle.plans.specs.Plans.{badKeys, addPlan, revisePlan, removePlan, stepPlan}
 use Rattle.store.specs.Calls.{addStore, reviseAnswer, reviseStore, removeAnswer, removeStore, outcomeAt, convertedAt, stepStore}
-use Rattle.plans.proofs.PlanLaws.{passed, slotOf, there, remove-at}
 use Rattle.claims.specs.Machine.{Event, reading, adding, revising, removing, stepping, Allowed, AllAllowed, Answer, ofRead, ofStored, ofRemoved, ofStep, State, answer, next, answers}
 use Rattle.claims.specs.Claims.{eventAt, answerAt, RemovedAt}
 use Rattle.claims.proofs.ViewLaws.{scan-same, slot-other}

@@ -6,18 +6,18 @@ use mathlib.Core.List.{List, [], _∷_}
 use Prim.Native.Nat.{ℕ, _+_, _<_}
 use native.Mathlib.Omega.{arith}
 use Rattle.block.specs.Bytes.{Bytes}
-use Rattle.slots.specs.Record.{num, rev}
-use Rattle.slots.specs.Text.{sheet}
+use Rattle.records.specs.Record.{num, rev}
+use Rattle.records.specs.Text.{sheet}
+use Rattle.records.proofs.SheetLaws.{num-sheet, length-sheet}
 use Rattle.slots.specs.Slots.{slot, emptied}
-use Rattle.slots.proofs.SheetLaws.{num-sheet, length-sheet}
 use Rattle.slots.proofs.FindLaws.{find-lowest}
 use Rattle.plans.specs.declared.Plan.{Plan}
 use Rattle.plans.specs.declared.Plan.the-variants.{Refuse, At}
+use Rattle.plans.specs.Plans.{badKeys, addPlan, revisePlan, removePlan, stepPlan}
+use Rattle.plans.proofs.PlanLaws.{remove-at}
 use Rattle.store.specs.declared.Outcome.{Outcome}
 use Rattle.store.specs.declared.Outcome.the-variants.{Done, Free, Damaged, Already, Converted}
-use Rattle.plans.specs.Plans.{badKeys, addPlan, revisePlan, removePlan, stepPlan}
 use Rattle.store.specs.Calls.{addStore, reviseStore, removeStore, outcomeAt, convertedAt, stepStore}
-use Rattle.plans.proofs.PlanLaws.{remove-at}
 use Rattle.claims.specs.Machine.{Event, reading, adding, revising, removing, stepping, Allowed, AllAllowed, State, next, final}
 use Rattle.claims.proofs.Simulation.{SoundStore}
 use Rattle.claims.proofs.Keeping.{num-emptied, length-emptied}

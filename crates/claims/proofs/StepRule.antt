@@ -7,11 +7,11 @@ use Rattle.block.specs.Bytes.{Bytes}
 use Rattle.slots.specs.Slots.{slot}
 use Rattle.plans.specs.declared.Plan.{Plan}
 use Rattle.plans.specs.declared.Plan.the-variants.{Refuse, At}
+use Rattle.plans.specs.Plans.{stepPlan}
+use Rattle.plans.proofs.PlanLaws.{passed, slotOf}
 use Rattle.store.specs.declared.Outcome.{Outcome}
 use Rattle.store.specs.declared.Outcome.the-variants.{Done, Free, Damaged, Already, Converted}
-use Rattle.plans.specs.Plans.{stepPlan}
 use Rattle.store.specs.Calls.{outcomeAt, convertedAt, stepStore}
-use Rattle.plans.proofs.PlanLaws.{passed, slotOf}
 use Rattle.claims.specs.Machine.{storeStep}
 use Rattle.claims.specs.Claims.{KeepsOthers}
 use Rattle.claims.proofs.ViewLaws.{slot-other}

@@ -10,19 +10,20 @@ use borrow.Author.Tests.{eqb-false}
 use lib.ListN.{length, drop, length-set}
 use Rattle.block.specs.Bytes.{Bytes}
 use Rattle.block.proofs.RowLaws.{bytes-row}
-use Rattle.slots.specs.Record.{num, rev, len}
-use Rattle.slots.specs.Text.{textOf}
+use Rattle.records.specs.Record.{num, rev, len}
+use Rattle.records.specs.Text.{textOf}
+use Rattle.records.proofs.FieldLaws.{sound-len}
+use Rattle.records.proofs.TextLaws.{length-textOf}
 use Rattle.slots.specs.Slots.{slots, slot, find}
-use Rattle.slots.proofs.FieldLaws.{sound-len}
-use Rattle.slots.proofs.FindLaws.{find-has, length-slot}
-use Rattle.slots.proofs.TextLaws.{length-textOf}
+use Rattle.slots.proofs.FindLaws.{find-has}
+use Rattle.slots.proofs.SlotLaws.{length-slot}
 use Rattle.plans.specs.declared.Plan.{Plan}
 use Rattle.plans.specs.declared.Plan.the-variants.{Refuse, At}
+use Rattle.plans.specs.Plans.{badKeys, readPlan, addPlan, revisePlan, removePlan, stepPlan, readAtPlan}
+use Rattle.plans.proofs.PlanLaws.{passed, slotOf, there}
 use Rattle.store.specs.declared.Text.the-variants.{Read}
 use Rattle.store.specs.declared.Stored.the-variants.{Revision}
-use Rattle.plans.specs.Plans.{badKeys, readPlan, addPlan, revisePlan, removePlan, stepPlan, readAtPlan}
 use Rattle.store.specs.Calls.{readAnswer, readBuffer, addAnswer, reviseAnswer, removeAnswer}
-use Rattle.plans.proofs.PlanLaws.{passed, slotOf, there}
 use Rattle.claims.specs.Plain.{Place, nothing, holding, revisionOf, textIn, at, addIn, reviseIn, removeIn, readText, readInto, added, afterAdd, revised, afterRevise, gone, afterRemove}
 use Rattle.claims.specs.View.{plain}
 use Rattle.claims.specs.Machine.{Event, reading, adding, revising, removing, stepping, Allowed, AllAllowed, Answer, ofRead, ofStored, ofRemoved, State, answer, next, answers, final, listAnswer, listNext, listAnswers, listFinal}

@@ -11,9 +11,9 @@ use lib.Seq.{take-at, drop-at, take-all}
 use Rattle.block.specs.Bytes.{Bytes}
 use Rattle.block.specs.Rows.{row}
 use Rattle.block.proofs.BytesLaws.{bytes-zeros, bytes-append}
-use Rattle.slots.specs.Record.{num, mark, sound, recordOf, lead}
+use Rattle.records.specs.Record.{num, mark, sound, recordOf, lead}
+use Rattle.records.proofs.RecordLaws.{num-record, mark-record, sound-record, length-record, bytes-lead}
 use Rattle.slots.specs.Slots.{slots, slot}
-use Rattle.slots.proofs.RecordLaws.{num-record, mark-record, sound-record, length-record, bytes-lead}
 use Rattle.plans.specs.Plans.{badSize}
 use Rattle.claims.specs.Claims.{Passes}
 use Rattle.claims.proofs.Simulation.{SoundStore}

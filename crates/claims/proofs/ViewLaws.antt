@@ -11,8 +11,8 @@ use borrow.Author.Tests.{eqb-true, ltb-true, ltb-false}
 use lib.Dec.{eqb, ltb}
 use lib.ListN.{length, set}
 use Rattle.block.proofs.RowLaws.{length-putRow, row-put, row-put-below, row-put-above}
-use Rattle.slots.specs.Record.{num, rev}
-use Rattle.slots.specs.Text.{textOf}
+use Rattle.records.specs.Record.{num, rev}
+use Rattle.records.specs.Text.{textOf}
 use Rattle.slots.specs.Slots.{slots, slot, put, scan, lowest, find}
 use Rattle.claims.specs.Plain.{Place, nothing, holding, numberOf, at, findIn}
 use Rattle.claims.specs.View.{placeOf, placesFrom, plain}

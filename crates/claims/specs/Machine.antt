@@ -7,12 +7,12 @@ use Prim.Native.Nat.{ℕ, _<_}
 use lib.Dec.{eqb}
 use lib.ListN.{length}
 use Rattle.block.specs.Bytes.{Bytes}
+use Rattle.plans.specs.Plans.{readPlan, addPlan, revisePlan, removePlan, stepPlan}
 use Rattle.store.specs.declared.Text.{Text}
 use Rattle.store.specs.declared.Stored.{Stored}
 use Rattle.store.specs.declared.Removed.{Removed}
 use Rattle.store.specs.declared.Stepped.{Stepped}
 use Rattle.store.specs.declared.Stepped.the-variants.{Went, Refused}
-use Rattle.plans.specs.Plans.{readPlan, addPlan, revisePlan, removePlan, stepPlan}
 use Rattle.store.specs.Calls.{readAnswer, readBuffer, addAnswer, addStore, reviseAnswer, reviseStore, removeAnswer, removeStore, stepAnswer, stepStore}
 use Rattle.claims.specs.Plain.{Place, readIn, addIn, reviseIn, removeIn, readText, readInto, added, afterAdd, revised, afterRevise, gone, afterRemove}
 

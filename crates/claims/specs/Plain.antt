@@ -11,13 +11,13 @@ use Rattle.slots.specs.Slots.{lowest}
 use Rattle.plans.specs.declared.Refusal.the-variants.{SheetZero, TextLength, NoSheet, OtherRevision, LastRevision, NoRoom, SheetThere, BufferShort}
 use Rattle.plans.specs.declared.Plan.{Plan}
 use Rattle.plans.specs.declared.Plan.the-variants.{Refuse, At}
+use Rattle.plans.specs.Plans.{guard, badText}
 use Rattle.store.specs.declared.Text.{Text}
 use Rattle.store.specs.declared.Text.the-variants as text
 use Rattle.store.specs.declared.Stored.{Stored}
 use Rattle.store.specs.declared.Stored.the-variants as stored
 use Rattle.store.specs.declared.Removed.{Removed}
 use Rattle.store.specs.declared.Removed.the-variants as removed
-use Rattle.plans.specs.Plans.{guard, badText}
 
 pub data Place : Type 0 where
   nothing : Place

@@ -4,8 +4,8 @@ use mathlib.Core.Bool.{cond}
 use mathlib.Core.List.{List, [], _∷_}
 use Prim.Native.Nat.{ℕ, zero, suc}
 use lib.Dec.{eqb}
-use Rattle.slots.specs.Record.{num, rev}
-use Rattle.slots.specs.Text.{textOf}
+use Rattle.records.specs.Record.{num, rev}
+use Rattle.records.specs.Text.{textOf}
 use Rattle.slots.specs.Slots.{slots, slot}
 use Rattle.claims.specs.Plain.{Place, nothing, holding}
 

@@ -1,3 +1,2 @@
--- What the calls for C promise.
+-- What the calls for C of AES and EME2 promise.
 pub mod Calls
-pub mod Sheets

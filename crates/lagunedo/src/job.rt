@@ -1,6 +1,5 @@
 // The rekeying job as a struct that is lent: the thin step over it, above the step by value.
-ghost use Rattle.lagunedo.specs.Sheets.{StepForC};
-use super::answers;
+ghost use Rattle.answers.specs.Sheets.{StepForC};
 
 // The rekeying job: the place that its next step works on. A new copy starts at 0.
 #[repr(C)]

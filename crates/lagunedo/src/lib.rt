@@ -4,8 +4,6 @@ ghost use mathlib.Core.Bool.{true, false};
 ghost use mathlib.Core.Path.{_≡_};
 ghost use Rattle.aes.specs.Calls.{paper};
 ghost use Rattle.lagunedo.specs.Calls.{AesCalled, Eme2Called};
-// What the store's calls answer, by value.
-mod answers;
 // The step over a job that is lent.
 mod job;
 // 01's numbers of EME2's answers.

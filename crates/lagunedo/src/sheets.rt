@@ -1,6 +1,5 @@
 // The store's calls for C. Each makes the call with what stands behind its pointers, and writes back what is to stand there.
-ghost use Rattle.lagunedo.specs.Sheets.{CheckedForC, ReadForC, AddForC, ReviseForC, RemoveForC, StepForC};
-use super::answers;
+ghost use Rattle.answers.specs.Sheets.{CheckedForC, ReadForC, AddForC, ReviseForC, RemoveForC, StepForC};
 
 // The five counts of a sound store; 256 and the lowest faulty slot; 4.
 #[no_mangle]

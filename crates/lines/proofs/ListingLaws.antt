@@ -8,15 +8,15 @@ use native.Mathlib.Numerals.{add-one}
 use borrow.Author.Tests.{lt-ltb, le-ltb}
 use lib.Dec.{ltb}
 use lib.ListN.{length}
-use Rattle.slots.specs.Record.{num, rev, mark, len}
+use Rattle.records.specs.Record.{num, rev, mark, len}
 use Rattle.slots.specs.Slots.{slots, slot}
-use Rattle.store.specs.declared.Checked.{Checked}
-use Rattle.store.specs.declared.Checked.the-variants.{Fault, Refused}
 use Rattle.plans.specs.declared.Refusal.{Refusal}
 use Rattle.plans.specs.declared.Refusal.the-variants.{StoreSize}
 use Rattle.plans.specs.Plans.{paper, badSize}
-use Rattle.store.specs.Calls.{firstFault, counts, checkAnswer}
-use Rattle.store.proofs.CheckLaws.{used-not, used-so}
+use Rattle.checking.specs.declared.Checked.{Checked}
+use Rattle.checking.specs.declared.Checked.the-variants.{Fault, Refused}
+use Rattle.checking.specs.Check.{firstFault, counts, checkAnswer}
+use Rattle.checking.proofs.CheckLaws.{used-not, used-so}
 use Rattle.lines.specs.Laid.{Laid}
 use Rattle.lines.specs.Listing.{most, space, newline, tooLong, field, line, slotLine, lines, report, listing, Listed}
 use Rattle.lines.proofs.LaidLaws.{laid-as, laid-front}

@@ -7,12 +7,12 @@ use mathlib.Core.List.{List, [], _∷_, _++_}
 use Prim.Native.Nat.{ℕ, zero, suc, _*_}
 use lib.Dec.{ltb}
 use lib.ListN.{length}
-use Rattle.slots.specs.Record.{num, rev, mark, len}
+use Rattle.records.specs.Record.{num, rev, mark, len}
 use Rattle.slots.specs.Slots.{slots, slot}
-use Rattle.store.specs.declared.Checked.{Checked}
-use Rattle.store.specs.declared.Checked.the-variants.{Counts, Fault, Refused}
 use Rattle.plans.specs.Plans.{paper}
-use Rattle.store.specs.Calls.{used, checkAnswer}
+use Rattle.checking.specs.declared.Checked.{Checked}
+use Rattle.checking.specs.declared.Checked.the-variants.{Counts, Fault, Refused}
+use Rattle.checking.specs.Check.{used, checkAnswer}
 use Rattle.lines.specs.Decimal.{decimal}
 use Rattle.lines.specs.Laid.{overlay}
 

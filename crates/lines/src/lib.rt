@@ -11,9 +11,9 @@ mod table;
 ghost use Prim.Native.Nat.{_+_, _≤_};
 ghost use Rattle.lines.specs.Laid.{room, Laid};
 ghost use Rattle.lines.specs.Listing.{countsLine, Listed};
+use checking::Checked;
 use laying::text;
 use numbers::named;
-use store::Checked;
 use table::used_lines;
 
 // 31 slots.
@@ -27,7 +27,7 @@ pub fn list(store: &[u8], out: &mut [u8]) -> usize
     if store.len() > MOST {
         return text(out, 0, b"too long\n");
     }
-    match store::check(store) {
+    match checking::check(store) {
         Checked::Refused(_) => named(out, 0, b"refused ", 4, b'\n'),
         Checked::Fault(k) => named(out, 0, b"fault at ", k as usize, b'\n'),
         Checked::Counts {

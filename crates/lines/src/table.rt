@@ -29,7 +29,7 @@ fn slot_line(out: &mut [u8], at: usize, store: &[u8], k: usize) -> usize
 {
     let from = k * 2112;
     let end = from + 2112;
-    if slots::number(&store[from..end]) == 0 {
+    if records::number(&store[from..end]) == 0 {
         return at;
     }
     line(out, at, k, &store[from..end])
@@ -41,8 +41,8 @@ fn line(out: &mut [u8], at: usize, k: usize, r: &[u8]) -> usize
     ensures { λ n. ⌜ (Laid (line k (now (r .entry))) at (now (out .entry)) n (now (out .exit))) × (n ≤ at + 105) ⌝ }
 {
     let at = field(out, at, k, b' ');
-    let at = field(out, at, slots::number(r) as usize, b' ');
-    let at = field(out, at, slots::revision(r) as usize, b' ');
-    let at = field(out, at, slots::mark(r) as usize, b' ');
-    field(out, at, slots::text_length(r), b'\n')
+    let at = field(out, at, records::number(r) as usize, b' ');
+    let at = field(out, at, records::revision(r) as usize, b' ');
+    let at = field(out, at, records::mark(r) as usize, b' ');
+    field(out, at, records::text_length(r), b'\n')
 }

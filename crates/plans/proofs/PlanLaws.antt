@@ -10,12 +10,13 @@ use lib.Dec.{eqb, ltb}
 use lib.ListN.{length}
 use Rattle.block.specs.Bytes.{Bytes}
 use Rattle.block.proofs.RowLaws.{bytes-row}
-use Rattle.slots.specs.Record.{num, rev, len, sound}
-use Rattle.slots.specs.Text.{textOf}
+use Rattle.records.specs.Record.{num, rev, len, sound}
+use Rattle.records.specs.Text.{textOf}
+use Rattle.records.proofs.FieldLaws.{sound-len}
+use Rattle.records.proofs.TextLaws.{length-textOf}
 use Rattle.slots.specs.Slots.{slots, slot, find}
-use Rattle.slots.proofs.FieldLaws.{sound-len}
-use Rattle.slots.proofs.FindLaws.{find-le, find-has, length-slot}
-use Rattle.slots.proofs.TextLaws.{length-textOf}
+use Rattle.slots.proofs.FindLaws.{find-le, find-has}
+use Rattle.slots.proofs.SlotLaws.{length-slot}
 use Rattle.plans.specs.declared.Refusal.{Refusal}
 use Rattle.plans.specs.declared.Plan.{Plan}
 use Rattle.plans.specs.declared.Plan.the-variants.{Refuse, At}

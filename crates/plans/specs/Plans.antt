@@ -6,8 +6,8 @@ use Prim.Native.Nat.{ℕ, _-_, _/_, _%_}
 use lib.Dec.{eqb, ltb}
 use lib.ListN.{length}
 use Rattle.schedule.specs.Size.{keySize}
-use Rattle.slots.specs.Record.{rev, len, sound}
-use Rattle.slots.specs.Text.{textOf}
+use Rattle.records.specs.Record.{rev, len, sound}
+use Rattle.records.specs.Text.{textOf}
 use Rattle.slots.specs.Slots.{slots, slot, find}
 use Rattle.plans.specs.declared.Refusal.{Refusal}
 use Rattle.plans.specs.declared.Refusal.the-variants.{KeyLength, MessageLength, DataLength, StoreSize, SheetZero, TextLength, NoSheet, OtherRevision, LastRevision, NoRoom, SheetThere, Unsound, BufferShort, LengthChanged}

@@ -1,7 +1,7 @@
 // The ladders of refusals (01, numbers returned in place of a result): each only reads, and tests in 01's order.
 ghost use mathlib.Core.Path.{_≡_};
 ghost use Prim.Native.Nat.{_<_};
-ghost use Rattle.slots.specs.Record.{num};
+ghost use Rattle.records.specs.Record.{num};
 ghost use Rattle.slots.specs.Slots.{slots, slot};
 ghost use Rattle.plans.specs.Plans.{readAtPlan, readPlan, addPlan, reviseAtPlan, revisePlan, removePlan, stepPlan};
 use super::Plan;
@@ -39,10 +39,10 @@ fn read_at_plan(old: &[u8], new: &[u8], store: &[u8], room: usize, k: usize) -> 
 {
     let at = k * 2112;
     let end = at + 2112;
-    if !slots::is_sound(&store[at..end]) {
+    if !records::is_sound(&store[at..end]) {
         return Plan::Refuse(Refusal::Unsound);
     }
-    if room < slots::text_length(&store[at..end]) {
+    if room < records::text_length(&store[at..end]) {
         return Plan::Refuse(Refusal::BufferShort);
     }
     Plan::At(k)
@@ -104,10 +104,10 @@ fn revise_at_plan(store: &[u8], seen: u32, k: usize) -> Plan
 {
     let at = k * 2112;
     let end = at + 2112;
-    if !slots::is_sound(&store[at..end]) {
+    if !records::is_sound(&store[at..end]) {
         return Plan::Refuse(Refusal::Unsound);
     }
-    let v = slots::revision(&store[at..end]);
+    let v = records::revision(&store[at..end]);
     if seen != v {
         return Plan::Refuse(Refusal::OtherRevision);
     }

@@ -1,19 +1,16 @@
--- Laws of looking for a slot and of counting slots, and a slot as the part of the store that the code takes.
+-- Laws of looking for a slot and of counting slots.
 -- Assumes nothing.
 use mathlib.Core.Path.{_≡_, refl, sym, ap, _∙_, subst}
 use mathlib.Core.Logic.{⊎-elim}
 use mathlib.Core.Bool.{Bool, true, false, cond, not}
 use mathlib.Core.List.{List}
-use Prim.Native.Nat.{ℕ, zero, suc, _+_, _-_, _*_, _≤_, _<_}
+use Prim.Native.Nat.{ℕ, zero, suc, _+_, _-_, _≤_, _<_}
 use native.Mathlib.Nat.{eq-or-lt-of-le}
 use native.Mathlib.Numerals.{add-one}
 use native.Mathlib.Omega.{arith}
 use borrow.Author.Tests.{eqb-true, eqb-false}
 use lib.Dec.{T, eqb}
-use lib.ListN.{length, take, drop}
-use Rattle.block.specs.Rows.{row}
-use Rattle.block.proofs.RowLaws.{length-row}
-use Rattle.slots.specs.Record.{num}
+use Rattle.records.specs.Record.{num}
 use Rattle.slots.specs.Slots.{slots, slot, scan, lowest, tally, find}
 
 -- ---- the first that passes a test
@@ -138,13 +135,3 @@ module _ (s : List ℕ) (n : ℕ) where
   pub find-lowest : (j : ℕ) → j < find s n → num (slot s j) ≡ n → ⊥
   unfolding find
   find-lowest j h = eqb-false (num (slot s j)) n (lowest-below (hasNum s n) (slots s) j h)
-
--- the part of s from k * 2112 on that the code takes for slot k
-pub slot-part : (s : List ℕ) (k : ℕ) → take (k * 2112 + 2112 - k * 2112) (drop (k * 2112) s) ≡ slot s k
-unfolding row
-slot-part s k =
-    let n : k * 2112 + 2112 - k * 2112 ≡ 2112 = omega arith in
-    ap (λ (m : ℕ). take m (drop (k * 2112) s)) n
-
-pub length-slot : (s : List ℕ) (k : ℕ) → k < slots s → length (slot s k) ≡ 2112
-length-slot s k h = length-row 2112 s k (omega arith)

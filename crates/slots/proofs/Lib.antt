@@ -1,7 +1,3 @@
 -- The laws that this crate's proofs and those of the layers above cite.
-pub mod FieldLaws
 pub mod FindLaws
-pub mod WriteLaws
-pub mod TextLaws
-pub mod RecordLaws
-pub mod SheetLaws
+pub mod SlotLaws

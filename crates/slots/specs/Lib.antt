@@ -1,4 +1,2 @@
--- One record of the store, and the slots of a store.
-pub mod Record
-pub mod Text
+-- The slots of a store.
 pub mod Slots

@@ -6,7 +6,7 @@ use Prim.Native.Nat.{ℕ, zero, suc, _+_, _/_}
 use lib.Dec.{eqb}
 use lib.ListN.{length, replicate}
 use Rattle.block.specs.Rows.{row, putRow}
-use Rattle.slots.specs.Record.{num}
+use Rattle.records.specs.Record.{num}
 
 -- how many slots s has
 abbrev pub slots : List ℕ → ℕ

@@ -1,5 +1,4 @@
 -- The laws that this crate's proofs and those of the layers above cite.
-pub mod CheckLaws
 pub mod StepLaws
 pub mod RoundTrip
 pub mod Retry

@@ -10,12 +10,12 @@ use lib.Dec.{eqb, ltb}
 use lib.ListN.{length}
 use Rattle.block.specs.Bytes.{Bytes}
 use Rattle.block.proofs.RowLaws.{length-putRow, row-put-below, bytes-row}
-use Rattle.slots.specs.Record.{num, rev, sound}
-use Rattle.slots.specs.Text.{sheet}
+use Rattle.records.specs.Record.{num, rev, sound}
+use Rattle.records.specs.Text.{sheet}
+use Rattle.records.proofs.FieldLaws.{rev-bound}
+use Rattle.records.proofs.SheetLaws.{length-sheet}
 use Rattle.slots.specs.Slots.{slots, slot, put, find}
-use Rattle.slots.proofs.FieldLaws.{rev-bound}
 use Rattle.slots.proofs.FindLaws.{hasNum, lowest-is, find-lowest}
-use Rattle.slots.proofs.SheetLaws.{length-sheet}
 use Rattle.plans.specs.declared.Plan.{Plan}
 use Rattle.plans.specs.declared.Plan.the-variants.{Refuse, At}
 use Rattle.plans.specs.declared.Refusal.the-variants.{OtherRevision, SheetThere}

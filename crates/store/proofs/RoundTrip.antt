@@ -8,10 +8,10 @@ use native.Mathlib.Omega.{arith}
 use lib.ListN.{length}
 use Rattle.block.specs.Bytes.{Bytes}
 use Rattle.block.proofs.RowLaws.{row-put}
-use Rattle.slots.specs.Record.{num, rev, mark, sound}
-use Rattle.slots.specs.Text.{textOf, sheet}
+use Rattle.records.specs.Record.{num, rev, mark, sound}
+use Rattle.records.specs.Text.{textOf, sheet}
+use Rattle.records.proofs.SheetLaws.{num-sheet, rev-sheet, mark-sheet, length-sheet, sound-sheet, sheet-text}
 use Rattle.slots.specs.Slots.{slots, slot, put}
-use Rattle.slots.proofs.SheetLaws.{num-sheet, rev-sheet, mark-sheet, length-sheet, sound-sheet, sheet-text}
 
 module _ (w : List ℕ) (n v : ℕ) (t : List ℕ) (bw : Bytes w) (bt : Bytes t) (ht : length t ≤ 2096) (s : List ℕ) (k : ℕ) (h : k < slots s) where
   pub slot-back : slot (put s k (sheet w n v t)) k ≡ sheet w n v t

@@ -6,7 +6,7 @@ use mathlib.Core.List.{List}
 use Prim.Native.Nat.{ℕ, _≤_, _<_}
 use borrow.Author.Tests.{le-leb, lt-leb, eq-eqb, ne-eqb}
 use lib.Dec.{eqb}
-use Rattle.slots.specs.Record.{num, mark, sound}
+use Rattle.records.specs.Record.{num, mark, sound}
 use Rattle.slots.specs.Slots.{slots, slot}
 use Rattle.store.specs.declared.Outcome.the-variants.{Done, Free, Damaged, Already, Converted}
 use Rattle.store.specs.Calls.{recordOutcome, outcomeAt}

@@ -1,20 +1,18 @@
 -- 01, the store: what each call answers and what it leaves in the store, the text buffer and the job's place, for every input; and that these
 -- statements determine them. Keys: o the old one, w the new one. The store is s, and s′ afterwards.
 -- Assumes nothing.
-use mathlib.Core.Bool.{Bool, cond, not, _&&_, _||_}
+use mathlib.Core.Bool.{cond, not}
 use mathlib.Core.Path.{_≡_, sym, _∙_}
 use mathlib.Core.List.{List, _++_}
 use Prim.Native.Nat.{ℕ, _+_}
-use lib.Dec.{eqb, ltb, leb}
+use lib.Dec.{eqb, leb}
 use lib.ListN.{length, drop}
-use Rattle.slots.specs.Record.{num, rev, mark, len, sound}
-use Rattle.slots.specs.Text.{textOf, sheet}
-use Rattle.slots.specs.Slots.{slots, slot, put, emptied, lowest, tally, find}
-use Rattle.plans.specs.declared.Refusal.the-variants.{StoreSize}
+use Rattle.records.specs.Record.{num, rev, mark, len, sound}
+use Rattle.records.specs.Text.{textOf, sheet}
+use Rattle.slots.specs.Slots.{slots, slot, put, emptied}
 use Rattle.plans.specs.declared.Plan.{Plan}
 use Rattle.plans.specs.declared.Plan.the-variants.{Refuse, At}
-use Rattle.store.specs.declared.Checked.{Checked}
-use Rattle.store.specs.declared.Checked.the-variants as checked
+use Rattle.plans.specs.Plans.{readPlan, addPlan, revisePlan, removePlan, stepPlan}
 use Rattle.store.specs.declared.Text.{Text}
 use Rattle.store.specs.declared.Text.the-variants as text
 use Rattle.store.specs.declared.Stored.{Stored}
@@ -25,41 +23,6 @@ use Rattle.store.specs.declared.Outcome.{Outcome}
 use Rattle.store.specs.declared.Outcome.the-variants as outcome
 use Rattle.store.specs.declared.Stepped.{Stepped}
 use Rattle.store.specs.declared.Stepped.the-variants as stepped
-use Rattle.plans.specs.Plans.{badSize, readPlan, addPlan, revisePlan, removePlan, stepPlan}
-
--- ---- check
-
--- a faulty slot: unsound, or repeating a lower slot's number other than 0
-unfoldable pub faulty : List ℕ → ℕ → Bool
-faulty s k = not (sound (slot s k)) || (not (eqb (num (slot s k)) 0) && ltb (find s (num (slot s k))) k)
-
--- the lowest faulty slot, or the count of slots
-unfoldable pub firstFault : List ℕ → ℕ
-firstFault s = lowest (faulty s) (slots s)
-
--- used, and used with mark m
-abbrev pub used : List ℕ → Bool
-used r = not (eqb (num r) 0)
-
-abbrev pub marked : ℕ → List ℕ → Bool
-marked m r = used r && eqb (mark r) m
-
--- how many slots pass a test on their record
-unfoldable pub counted : (List ℕ → Bool) → List ℕ → ℕ
-counted p s = tally (λ k. p (slot s k)) (slots s)
-
-abbrev pub counts : List ℕ → Checked
-counts s = checked.Counts (counted used s) (counted (λ r. not (used r)) s) (counted (marked 0) s) (counted (marked 1) s) (counted (marked 2) s)
-
-unfoldable pub checkAnswer : List ℕ → Checked
-checkAnswer s = cond (badSize s) (checked.Refused StoreSize) (cond (ltb (firstFault s) (slots s)) (checked.Fault (firstFault s)) (counts s))
-
--- what check promises
-abbrev pub CheckCalled : List ℕ → Checked → Type 0
-CheckCalled s a = a ≡ checkAnswer s
-
-pub check-determined : (s : List ℕ) (a a′ : Checked) → CheckCalled s a → CheckCalled s a′ → a ≡ a′
-check-determined s a a′ p q = p ∙ sym q
 
 -- ---- read: sheet n into the buffer b
 

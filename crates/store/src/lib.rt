@@ -1,9 +1,7 @@
-// The sheet store of 01 in lent bytes: check, read, add, revise, remove, and one step of the rekeying job, by value.
+// The sheet store of 01 in lent bytes: read, add, revise, remove, and one step of the rekeying job, by value.
 //
 // Every call answers any bytes, keys and numbers. Its ladder of refusals is a function that only reads (crate `plans`), and the call does what the plan
 // says. Contracts cite `specs/Calls.antt`: what a call answers and the bytes afterwards, by equations.
-// Check.
-mod checking;
 // Read.
 mod reading;
 // One step of the rekeying job.
@@ -12,25 +10,11 @@ mod stepping;
 mod writing;
 
 use plans::Refusal;
-pub use checking::check;
 pub use reading::read;
 pub use stepping::step_at;
 pub use writing::add;
 pub use writing::remove;
 pub use writing::revise;
-
-// What check answers: the five counts of a sound store, or the lowest faulty slot.
-pub enum Checked {
-    Counts {
-        used: u32,
-        free: u32,
-        clear: u32,
-        old: u32,
-        new: u32,
-    },
-    Fault(u32),
-    Refused(Refusal),
-}
 
 // What read answers.
 pub enum Text {

@@ -3,8 +3,8 @@ ghost use mathlib.Core.Path.{_≡_};
 ghost use mathlib.Core.List.{_++_};
 ghost use Prim.Native.Nat.{_≤_, _<_};
 ghost use lib.ListN.{length, drop};
-ghost use Rattle.slots.specs.Record.{rev, len};
-ghost use Rattle.slots.specs.Text.{textOf};
+ghost use Rattle.records.specs.Record.{rev, len};
+ghost use Rattle.records.specs.Text.{textOf};
 ghost use Rattle.slots.specs.Slots.{slots, slot};
 ghost use Rattle.store.specs.Calls.{ReadCalled};
 use super::Text;
@@ -30,9 +30,9 @@ fn read_slot(old: &[u8], new: &[u8], store: &[u8], k: usize, text: &mut [u8]) ->
 {
     let at = k * 2112;
     let end = at + 2112;
-    let l = slots::text_length(&store[at..end]);
-    let v = slots::revision(&store[at..end]);
-    slots::take_text(&store[at..end], old, new, text);
+    let l = records::text_length(&store[at..end]);
+    let v = records::revision(&store[at..end]);
+    records::take_text(&store[at..end], old, new, text);
     Text::Read {
         length: l as u32,
         revision: v,

@@ -30,19 +30,19 @@ fn step_slot(old: &[u8], new: &[u8], store: &mut [u8], k: usize) -> Stepped
     let at = k * 2112;
     let end = at + 2112;
     let next = k + 1;
-    if slots::number(&store[at..end]) == 0 {
+    if records::number(&store[at..end]) == 0 {
         return Stepped::Went {
             outcome: Outcome::Free,
             place: next,
         };
     }
-    if !slots::is_sound(&store[at..end]) {
+    if !records::is_sound(&store[at..end]) {
         return Stepped::Went {
             outcome: Outcome::Damaged,
             place: next,
         };
     }
-    if slots::mark(&store[at..end]) == 2 {
+    if records::mark(&store[at..end]) == 2 {
         return Stepped::Went {
             outcome: Outcome::Already,
             place: next,

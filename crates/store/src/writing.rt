@@ -1,8 +1,4 @@
 // Add, revise and remove: one slot written whole.
-ghost use mathlib.Core.Path.{_≡_};
-ghost use Prim.Native.Nat.{_<_};
-ghost use Rattle.slots.specs.Record.{rev};
-ghost use Rattle.slots.specs.Slots.{slots, slot};
 ghost use Rattle.store.specs.Calls.{AddCalled, ReviseCalled, RemoveCalled};
 use super::Removed;
 use super::Stored;

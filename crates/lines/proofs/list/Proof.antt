@@ -4,8 +4,8 @@ use mathlib.Core.Path.{_≡_, sym, ap, _∙_}
 use mathlib.Core.List.{List}
 use Prim.Native.Nat.{ℕ}
 use native.Mathlib.Omega.{arith}
-use Rattle.store.specs.declared.Checked.the-variants.{Counts, Fault, Refused}
-use Rattle.store.specs.Calls.{checkAnswer}
+use Rattle.checking.specs.declared.Checked.the-variants.{Counts, Fault, Refused}
+use Rattle.checking.specs.Check.{checkAnswer}
 use Rattle.lines.specs.Listing.{newline, tooLong, refused, faultAt, named}
 use borrow.Author.Needs.{needs}
 use Rattle.lines.proofs.LaidLaws.{laid-then}

@@ -41,17 +41,17 @@ use denote.Triple.Table.{entered, cited}
 use denote.Triple.Walked.{says, Stays, stay-ref, stay-dropped, gave-slice, walkOf, AllGo, goes-ref, goes-dropped, goes-gave-slice, Walks, ends-at, walked, walk-meets}
 use denote.Exit.{yes}
 use denote.Signature.{plain, shrSliceOf}
-use Rattle.lagunedo.specs.Sheets.{StepForC}
+use Rattle.answers.specs.Sheets.{StepForC}
 use Rattle.lagunedo.specs.declared.job.Job.{Job}
-use Rattle.lagunedo.specs.declared.answers.StepValues.{StepValues}
+use Rattle.answers.specs.declared.StepValues.{StepValues}
 use Rattle.lagunedo.proofs.job.Job as T
 use Rattle.lagunedo.proofs.job.Job.Laws as T′
-use Rattle.lagunedo.proofs.answers.StepValues as S
-use Rattle.lagunedo.proofs.answers.StepValues.Laws as S′
-use Rattle.lagunedo.proofs.answers.step as steps
-use Rattle.lagunedo.proofs.answers.step.Symbol as steps-def
-use Rattle.lagunedo.proofs.answers.step.Symbol.{name as #lagunedo·answers·step}
-use Rattle.lagunedo.proofs.answers.step.Met as steps-thm
+use Rattle.answers.proofs.StepValues as S
+use Rattle.answers.proofs.StepValues.Laws as S′
+use Rattle.answers.proofs.step as steps
+use Rattle.answers.proofs.step.Symbol as steps-def
+use Rattle.answers.proofs.step.Symbol.{name as #answers·step}
+use Rattle.answers.proofs.step.Met as steps-thm
 use Rattle.lagunedo.proofs.job.lagunedo_job_step.Key.{name as #lagunedo·job·lagunedo-job-step}
 use Rattle.lagunedo.proofs.job.lagunedo_job_step as mine
 use Rattle.lagunedo.proofs.job.lagunedo_job_step.Statement as stated
@@ -165,7 +165,7 @@ module _ {M : Type 1} (𝓤 : URA M) (H : Heap 𝓤) (A : Atoms 𝓤) (W : Given
       feqI ! (List Val) (vptr b o ∷ []) (vptr b o ∷ []) refl $ move ! (0 ∷ 2 ∷ 3 ∷ []) $ fjoin3 ! $ fjoin ! $
       owned ! u32 (Is u32) (uint-makes 𝓤 H A W w32) (r .number) _ (refl, fits) $ move ! (1 ∷ 0 ∷ []) $ done !
 
-  module _ (C : Calls 𝓤 H) (Λ : Loops 𝓤 H) (fm : FmC 𝓤 H (W .laws) C) (known : Triple 𝓤 (C #lagunedo·answers·step) (Step 𝓤 H A at-mem run)) where
+  module _ (C : Calls 𝓤 H) (Λ : Loops 𝓤 H) (fm : FmC 𝓤 H (W .laws) C) (known : Triple 𝓤 (C #answers·step) (Step 𝓤 H A at-mem run)) where
     walk : ent 𝓤 (onEntry 𝓤 H A mine.signature κs qs a vals) (WpFn 𝓤 H C Λ code.function (vptr b o ∷ s₁ ∷ s₂ ∷ s₃ ∷ vptr b′ o′ ∷ []) Post)
     walk =
         qed W ((‵ (flft κ₀ q₀) ⊛ ‵ (flft κ₁ q₁) ⊛ ‵ (flft κ₂ q₂) ⊛ ‵ (flft κ₃ q₃) ⊛ ‵ (flft κ₄ q₄) ⊛ ‵ ftrue)
@@ -215,7 +215,7 @@ module _ {M : Type 1} (𝓤 : URA M) (H : Heap 𝓤) (A : Atoms 𝓤) (W : Given
         keep ! (0 ∷ 1 ∷ 2 ∷ 3 ∷ 4 ∷ 5 ∷ 6 ∷ 7 ∷ []) $ by ! (exits r (zs .1 .1 .0) e l (LL.owed S.the-type S′.the-laws r _ is .0 .1)))))))))))))))))))))))
 
 module _ {M : Type 1} (𝓤 : URA M) (H : Heap 𝓤) (A : Atoms 𝓤) (W : Given 𝓤 H A) (at-mem : Memory → SProp 𝓤) (run : Routine → Fun 𝓤) where
-  step-walks : (C : Calls 𝓤 H) (Λ : Loops 𝓤 H) → FmC 𝓤 H (W .laws) C → Triple 𝓤 (C #lagunedo·answers·step) (Step 𝓤 H A at-mem run) → Walks 𝓤 H A mine.ended stayed (WpFn 𝓤 H C Λ code.function) (mine.clauses 𝓤 H A at-mem run)
+  step-walks : (C : Calls 𝓤 H) (Λ : Loops 𝓤 H) → FmC 𝓤 H (W .laws) C → Triple 𝓤 (C #answers·step) (Step 𝓤 H A at-mem run) → Walks 𝓤 H A mine.ended stayed (WpFn 𝓤 H C Λ code.function) (mine.clauses 𝓤 H A at-mem run)
   step-walks C Λ fm known = walked 𝓤 H A mine.ended stayed (mine.clauses 𝓤 H A at-mem run) (WpFn 𝓤 H C Λ code.function) (λ κs. (ptr-vals, (slice-vals, (slice-vals, (slice-vals, (ptr-vals, tt))))))
       (λ κs. (mut-tells (named 0) (κs .0) T.the-row, (shr-slice-tells (named 1) (κs .1 .0) u8, (shr-slice-tells (named 2) (κs .1 .1 .0) u8, (mut-slice-tells (named 3) (κs .1 .1 .1 .0) u8, (mut-tells (named 4) (κs .1 .1 .1 .1 .0) u32, tt))))))
       (λ κs qs bounds a g are. via 𝓤 _ (fst∗ 𝓤 _ (emp 𝓤))
@@ -238,7 +238,7 @@ module _ {M : Type 1} (𝓤 : URA M) (H : Heap 𝓤) (A : Atoms 𝓤) (W : Given
     ),
   )
 
-step-meets : {M : Type 1} (𝓤 : URA M) (H : Heap 𝓤) (A : Atoms 𝓤) → Given 𝓤 H A → (at-mem : Memory → SProp 𝓤) (run : Routine → Fun 𝓤) (𝓣 : Tables 𝓤 H) → Triple 𝓤 (𝓣 .C #lagunedo·answers·step) (Step 𝓤 H A at-mem run)
+step-meets : {M : Type 1} (𝓤 : URA M) (H : Heap 𝓤) (A : Atoms 𝓤) → Given 𝓤 H A → (at-mem : Memory → SProp 𝓤) (run : Routine → Fun 𝓤) (𝓣 : Tables 𝓤 H) → Triple 𝓤 (𝓣 .C #answers·step) (Step 𝓤 H A at-mem run)
     → Meets 𝓤 H A mine.signature (WpFn 𝓤 H (𝓣 .C) (𝓣 .Λ) code.function) (mine.spec 𝓤 H A at-mem run)
 step-meets 𝓤 H A W at-mem run 𝓣 known =
     walk-meets 𝓤 H A mine.ended stayed W (all-go 𝓤 H A W at-mem run) (mine.clauses 𝓤 H A at-mem run)
@@ -250,4 +250,4 @@ lagunedo-job-step-spec 𝓤 H 𝓜 𝓖 𝓡 =
     entered 𝓤 H (tripleOf 𝓤 H (𝓖 .A) mine.signature (mine.spec 𝓤 H (𝓖 .A) (𝓜 .mem) (𝓡 .run)))
     (tables 𝓤 H 𝓜 𝓡 code.env .C) (tables 𝓤 H 𝓜 𝓡 code.env .Λ) #lagunedo·job·lagunedo-job-step code.function (code.unfolded 𝓤 H 𝓜 𝓡)
     (step-meets 𝓤 H (𝓖 .A) (givenOf 𝓤 H 𝓜 𝓖) (𝓜 .mem) (𝓡 .run) (tablesOf 𝓤 H 𝓜 (tables 𝓤 H 𝓜 𝓡 code.env))
-    (cited 𝓤 H (Step 𝓤 H (𝓖 .A) (𝓜 .mem) (𝓡 .run)) 𝓜 𝓡 code.env #lagunedo·answers·step steps-def.routine code.calls-lagunedo·answers·step (steps-thm.met 𝓤 H 𝓜 𝓖 𝓡)))
+    (cited 𝓤 H (Step 𝓤 H (𝓖 .A) (𝓜 .mem) (𝓡 .run)) 𝓜 𝓡 code.env #answers·step steps-def.routine code.calls-answers·step (steps-thm.met 𝓤 H 𝓜 𝓖 𝓡)))

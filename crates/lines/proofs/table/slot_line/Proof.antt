@@ -4,9 +4,9 @@ use mathlib.Core.Path.{_≡_, sym, ap, _∙_}
 use mathlib.Core.List.{List}
 use Prim.Native.Nat.{ℕ}
 use native.Mathlib.Omega.{arith}
-use Rattle.slots.specs.Record.{num}
+use Rattle.records.specs.Record.{num}
 use Rattle.slots.specs.Slots.{slot}
-use Rattle.slots.proofs.FindLaws.{slot-part}
+use Rattle.slots.proofs.SlotLaws.{slot-part}
 use Rattle.lines.specs.Listing.{line}
 use borrow.Author.Needs.{needs}
 use Rattle.lines.proofs.LaidLaws.{laid-nothing, laid-as}

@@ -7,9 +7,9 @@ use Prim.Native.Nat.{ℕ}
 use borrow.Author.Tests.{lt-ltb, le-ltb, not-false}
 use lib.Dec.{ltb}
 use Rattle.block.specs.Bytes.{Bytes}
-use Rattle.slots.specs.Record.{len, sound}
+use Rattle.records.specs.Record.{len, sound}
 use Rattle.slots.specs.Slots.{slot}
-use Rattle.slots.proofs.FindLaws.{slot-part}
+use Rattle.slots.proofs.SlotLaws.{slot-part}
 use Rattle.plans.specs.Plans.{readAtPlan}
 use Rattle.plans.proofs.PlanLaws.{yes, no, not-changed}
 use borrow.Author.Needs.{needs}

@@ -5,7 +5,7 @@ use mathlib.Core.List.{List}
 use Prim.Native.Nat.{ℕ, _<_}
 use native.Mathlib.Omega.{arith}
 use borrow.Author.Tests.{eq-eqb, ne-eqb}
-use Rattle.slots.specs.Record.{num}
+use Rattle.records.specs.Record.{num}
 use Rattle.slots.specs.Slots.{slots, slot, find}
 use Rattle.slots.proofs.FindLaws.{find-le, find-has}
 use Rattle.plans.specs.Plans.{readAtPlan, readPlan}

@@ -5,9 +5,9 @@ use mathlib.Core.Bool.{false, not}
 use mathlib.Core.List.{List}
 use Prim.Native.Nat.{ℕ}
 use borrow.Author.Tests.{eq-eqb, ne-eqb}
-use Rattle.slots.specs.Record.{rev, sound}
+use Rattle.records.specs.Record.{rev, sound}
 use Rattle.slots.specs.Slots.{slot}
-use Rattle.slots.proofs.FindLaws.{slot-part}
+use Rattle.slots.proofs.SlotLaws.{slot-part}
 use Rattle.plans.specs.Plans.{reviseAtPlan}
 use Rattle.plans.proofs.PlanLaws.{yes, no}
 use borrow.Author.Needs.{needs}

@@ -4,8 +4,8 @@ use mathlib.Core.Path.{_≡_, sym, ap, _∙_}
 use Rattle.plans.specs.declared.Plan.the-variants.{Refuse, At}
 use lib.ListN.{length}
 use Rattle.plans.specs.Plans.{readPlan}
-use Rattle.store.specs.Calls.{readAnswer, readBuffer}
 use Rattle.plans.proofs.PlanLaws.{read-at}
+use Rattle.store.specs.Calls.{readAnswer, readBuffer}
 use borrow.Author.Needs.{needs}
 use Rattle.store.proofs.reading.read.Statement.{statement}
 use Rattle.store.proofs.reading.read.Tie as tie

@@ -5,10 +5,10 @@ use mathlib.Core.List.{List, _++_}
 use Prim.Native.Nat.{ℕ, _+_, _-_, _*_}
 use native.Mathlib.Omega.{arith}
 use lib.ListN.{length, take, drop}
-use Rattle.slots.specs.Record.{rev, len}
-use Rattle.slots.specs.Text.{textOf}
+use Rattle.records.specs.Record.{rev, len}
+use Rattle.records.specs.Text.{textOf}
 use Rattle.slots.specs.Slots.{slot}
-use Rattle.slots.proofs.FindLaws.{slot-part, length-slot}
+use Rattle.slots.proofs.SlotLaws.{slot-part, length-slot}
 use Rattle.store.specs.declared.Text.the-variants.{Read}
 use borrow.Author.Needs.{needs}
 use Rattle.store.proofs.reading.read_slot.Statement.{statement}

@@ -6,10 +6,10 @@ use mathlib.Core.List.{List}
 use Prim.Native.Nat.{ℕ, _≤_, _<_}
 use native.Mathlib.Omega.{arith}
 use borrow.Author.Tests.{not-true, not-false}
-use Rattle.slots.specs.Record.{num, mark, sound}
+use Rattle.records.specs.Record.{num, mark, sound}
+use Rattle.records.proofs.FieldLaws.{sound-len}
 use Rattle.slots.specs.Slots.{slots, slot}
-use Rattle.slots.proofs.FieldLaws.{sound-len}
-use Rattle.slots.proofs.FindLaws.{slot-part}
+use Rattle.slots.proofs.SlotLaws.{slot-part}
 use Rattle.store.specs.declared.Outcome.{Outcome}
 use Rattle.store.specs.declared.Outcome.the-variants.{Converted}
 use Rattle.store.specs.declared.Stepped.the-variants.{Went}

@@ -3,8 +3,8 @@
 use mathlib.Core.Path.{_≡_, sym, ap, _∙_}
 use Rattle.plans.specs.declared.Plan.the-variants.{Refuse, At}
 use Rattle.plans.specs.Plans.{addPlan}
-use Rattle.store.specs.Calls.{addAnswer, addStore}
 use Rattle.plans.proofs.PlanLaws.{add-at}
+use Rattle.store.specs.Calls.{addAnswer, addStore}
 use borrow.Author.Needs.{needs}
 use Rattle.store.proofs.writing.add.Statement.{statement}
 use Rattle.store.proofs.writing.add.Tie as tie

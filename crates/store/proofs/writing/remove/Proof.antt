@@ -3,8 +3,8 @@
 use mathlib.Core.Path.{_≡_, sym, ap, _∙_}
 use Rattle.plans.specs.declared.Plan.the-variants.{Refuse, At}
 use Rattle.plans.specs.Plans.{removePlan}
-use Rattle.store.specs.Calls.{removeAnswer, removeStore}
 use Rattle.plans.proofs.PlanLaws.{remove-at}
+use Rattle.store.specs.Calls.{removeAnswer, removeStore}
 use borrow.Author.Needs.{needs}
 use Rattle.store.proofs.writing.remove.Statement.{statement}
 use Rattle.store.proofs.writing.remove.Tie as tie

@@ -8,14 +8,14 @@ use native.Mathlib.Omega.{arith}
 use lib.ListN.{length}
 use Rattle.block.specs.Bytes.{Bytes}
 use Rattle.block.proofs.RowLaws.{bytes-row}
-use Rattle.slots.specs.Record.{rev}
-use Rattle.slots.specs.Text.{sheet}
+use Rattle.records.specs.Record.{rev}
+use Rattle.records.specs.Text.{sheet}
+use Rattle.records.proofs.FieldLaws.{rev-bound}
 use Rattle.slots.specs.Slots.{slots, slot, put}
-use Rattle.slots.proofs.FieldLaws.{rev-bound}
-use Rattle.store.specs.declared.Stored.the-variants.{Revision}
 use Rattle.plans.specs.Plans.{revisePlan}
-use Rattle.store.specs.Calls.{reviseAnswer, reviseStore}
 use Rattle.plans.proofs.PlanLaws.{revise-at}
+use Rattle.store.specs.declared.Stored.the-variants.{Revision}
+use Rattle.store.specs.Calls.{reviseAnswer, reviseStore}
 use borrow.Author.Needs.{needs}
 use Rattle.store.proofs.writing.revise.Statement.{statement}
 use Rattle.store.proofs.writing.revise.Tie as tie

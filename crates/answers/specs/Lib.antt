@@ -1,0 +1,2 @@
+-- What the store's calls promise to C.
+pub mod Sheets

@@ -1,0 +1,2 @@
+-- What check answers.
+pub mod Check

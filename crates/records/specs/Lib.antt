@@ -1,0 +1,3 @@
+-- One record of the store.
+pub mod Record
+pub mod Text
