@@ -8,15 +8,14 @@ use native.Mathlib.Omega.{arith}
 use lib.ListN.{length, take, drop, length-drop}
 use lib.Seq.{length-take-le, take-all}
 use Rattle.block.specs.Blocks.{blockAt}
-use Rattle.schedule.specs.Size.{keySize}
 use Rattle.schedule.specs.KeyExpansion.{roundKeys}
 use Rattle.schedule.proofs.Laws.{key-sizes}
 use Rattle.cipher.specs.Cipher.{crypted}
 use Rattle.aes.specs.Aes.{aes}
 use Rattle.aes.specs.Promise.{crypted-aes}
-use Rattle.wide.specs.Wide.{wide}
-use Rattle.wide.specs.TStar.{eme2TStar}
-use Rattle.eme2.specs.Transform.{Key1, Key2, Key3, eme2}
+use Rattle.mode.specs.Wide.{wide}
+use Rattle.mode.specs.TStar.{eme2TStar}
+use Rattle.eme2.specs.Transform.{Key1, Key2, Key3, keyTaken, eme2}
 
 module _ (k : List ℕ) (h : 32 ≤ length k) where
   pub length-Key1 : length (Key1 k) ≡ length k - 32
@@ -53,5 +52,5 @@ module _ (k : List ℕ) (h : 32 ≤ length k) where
       (e-t ∙ ap₂ (λ (f : List ℕ → List ℕ) (x : List ℕ). eme2TStar f x ad) (same false) (e-3 ∙ key3-loaded))
 
 -- a key of an allowed size
-pub key-long : (k : List ℕ) → keySize (length k - 32) ≡ true → (48 ≤ length k) × (length k ≤ 64)
+pub key-long : (k : List ℕ) → keyTaken k ≡ true → (48 ≤ length k) × (length k ≤ 64)
 key-long k e = omega (arith, key-sizes (length k - 32) e)

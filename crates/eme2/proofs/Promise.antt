@@ -16,12 +16,12 @@ use Rattle.schedule.specs.Size.{keySize}
 use Rattle.schedule.proofs.Laws.{key-sizes}
 use Rattle.aes.specs.Aes.{aes}
 use Rattle.aes.specs.Promise.{aes-block, aes-undone}
-use Rattle.wide.specs.Permutation.{Undoes}
-use Rattle.wide.specs.TStar.{eme2TStar}
-use Rattle.eme2.specs.Transform.{Key1, Key2, Key3, number, eme2, afterwards}
-use Rattle.wide.proofs.Undo.{wide-undone}
-use Rattle.wide.proofs.Lengths.{length-wide, bytes-wide}
-use Rattle.wide.proofs.TStarLaws.{block-tStar}
+use Rattle.mode.specs.Permutation.{Undoes}
+use Rattle.mode.specs.TStar.{eme2TStar}
+use Rattle.mode.proofs.Undo.{wide-undone}
+use Rattle.mode.proofs.Lengths.{length-wide, bytes-wide}
+use Rattle.mode.proofs.TStarLaws.{block-tStar}
+use Rattle.eme2.specs.Transform.{Key1, Key2, Key3, keyTaken, number, eme2, afterwards}
 
 -- what the ladder says where it lets a call through
 through : (a b c : Bool) → _≡_ {A = ℕ} (cond (not a) 1 (cond b 2 (cond c 3 0))) 0 → (a ≡ true) × (b ≡ false)
@@ -34,9 +34,9 @@ neither false b e = refl
 neither true b e = e
 
 module _ (k ad m : List ℕ) (bk : Bytes k) (bad : Bytes ad) (bm : Bytes m) (e : number k ad m ≡ 0) where
-  tests : (keySize (length k - 32) ≡ true) × ((ltb (length m) 16 || ltb 65536 (length m)) ≡ false)
+  tests : (keyTaken k ≡ true) × ((ltb (length m) 16 || ltb 65536 (length m)) ≡ false)
   unfolding number
-  tests = through (keySize (length k - 32)) (ltb (length m) 16 || ltb 65536 (length m)) (ltb 1024 (length ad)) e
+  tests = through (keyTaken k) (ltb (length m) 16 || ltb 65536 (length m)) (ltb 1024 (length ad)) e
 
   long : 16 ≤ length m
   long = ltb-false (length m) 16 (neither (ltb (length m) 16) (ltb 65536 (length m)) (tests .1))
@@ -82,7 +82,7 @@ module _ (k ad m : List ℕ) (bk : Bytes k) (bad : Bytes ad) (bm : Bytes m) (e :
 number-length : (k ad m m′ : List ℕ) → length m′ ≡ length m → number k ad m′ ≡ number k ad m
 unfolding number
 number-length k ad m m′ e =
-    ap (λ (n : ℕ). cond (not (keySize (length k - 32))) 1 (cond (ltb n 16 || ltb 65536 n) 2 (cond (ltb 1024 (length ad)) 3 0))) e
+    ap (λ (n : ℕ). cond (not (keyTaken k)) 1 (cond (ltb n 16 || ltb 65536 n) 2 (cond (ltb 1024 (length ad)) 3 0))) e
 
 module _ (back : Bool) (k ad m : List ℕ) (bk : Bytes k) (bad : Bytes ad) (bm : Bytes m) where
   -- refused or not

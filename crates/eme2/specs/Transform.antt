@@ -7,8 +7,8 @@ use lib.Dec.{eqb, ltb}
 use lib.ListN.{length, take, drop}
 use Rattle.schedule.specs.Size.{keySize}
 use Rattle.aes.specs.Aes.{aes}
-use Rattle.wide.specs.Wide.{wide}
-use Rattle.wide.specs.TStar.{eme2TStar}
+use Rattle.mode.specs.Wide.{wide}
+use Rattle.mode.specs.TStar.{eme2TStar}
 
 -- the last 16 key bytes are Key3, the 16 before them Key2, the rest Key1: an AES key
 abbrev pub Key1 : List ℕ → List ℕ
@@ -20,10 +20,14 @@ Key2 k = take 16 (drop (length k - 32) k)
 abbrev pub Key3 : List ℕ → List ℕ
 Key3 k = drop (length k - 16) k
 
+-- a key that is taken, of 48 or 64 bytes: what is left for Key1 is a key of AES
+abbrev pub keyTaken : List ℕ → Bool
+keyTaken k = keySize (length k - 32)
+
 -- the numbers of 01 in their order: a key that is not 48 or 64 bytes; a message below 16 or above 65,536; associated data above 1,024
 unfoldable pub number : List ℕ → List ℕ → List ℕ → ℕ
 number k ad m =
-    cond (not (keySize (length k - 32))) 1 (cond (ltb (length m) 16 || ltb 65536 (length m)) 2 (cond (ltb 1024 (length ad)) 3 0))
+    cond (not (keyTaken k)) 1 (cond (ltb (length m) 16 || ltb 65536 (length m)) 2 (cond (ltb 1024 (length ad)) 3 0))
 
 -- enciphering, or with `back` deciphering; T_star is made with Enc either way
 unfoldable pub eme2 : Bool → List ℕ → List ℕ → List ℕ → List ℕ

@@ -4,10 +4,9 @@
 // proved of every message is in `proofs/Promise.antt`: the length is kept, and each direction undoes the other.
 ghost use mathlib.Core.Bool.{true, false};
 ghost use mathlib.Core.Path.{_≡_};
-ghost use Prim.Native.Nat.{_-_, _≤_};
+ghost use Prim.Native.Nat.{_≤_};
 ghost use lib.ListN.{length};
-ghost use Rattle.schedule.specs.Size.{keySize};
-ghost use Rattle.eme2.specs.Transform.{eme2};
+ghost use Rattle.eme2.specs.Transform.{keyTaken, eme2};
 ghost use Rattle.eme2.specs.Calls.{Called};
 
 // What a call answers: 01's numbers 0, 1, 2 and 3.
@@ -54,7 +53,7 @@ fn call(back: bool, key: &[u8], ad: &[u8], message: &mut [u8]) -> Answer
 
 // Whether the key is 48 or 64 bytes: what is left of it before Key2 and Key3 is a key of AES.
 pub fn key_taken(key: &[u8]) -> bool
-    ensures { λ b. ⌜ b ≡ keySize (length (now (key .entry)) - 32) ⌝ }
+    ensures { λ b. ⌜ b ≡ keyTaken (now (key .entry)) ⌝ }
 {
     let n = key.len();
     if n < 32 {
@@ -65,7 +64,7 @@ pub fn key_taken(key: &[u8]) -> bool
 
 // EME2-AES itself; T_star is made with Enc in both directions.
 fn transform(back: bool, key: &[u8], ad: &[u8], message: &mut [u8])
-    requires { ⌜ (keySize (length (now key) - 32) ≡ true) × (16 ≤ length (now message)) ⌝ }
+    requires { ⌜ (keyTaken (now key) ≡ true) × (16 ≤ length (now message)) ⌝ }
     ensures { λ _. ⌜ now (message .exit) ≡ eme2 back (now (key .entry)) (now (ad .entry)) (now (message .entry)) ⌝ }
 {
     let end = key.len() - 32;

@@ -2,10 +2,10 @@
 -- Assumes nothing.
 use mathlib.Core.Bool.{Bool, true, false, not, _||_}
 use mathlib.Core.List.{List}
-use Prim.Native.Nat.{ℕ, _-_, _/_, _%_}
+use Prim.Native.Nat.{ℕ, _/_, _%_}
 use lib.Dec.{eqb, ltb}
 use lib.ListN.{length}
-use Rattle.schedule.specs.Size.{keySize}
+use Rattle.eme2.specs.Transform.{keyTaken}
 use Rattle.records.specs.Record.{rev, len, sound}
 use Rattle.records.specs.Text.{textOf}
 use Rattle.slots.specs.Slots.{slots, slot, find}
@@ -38,7 +38,7 @@ guard false x p = p
 
 -- 1: a key given is not 48 or 64 bytes; both keys are tested
 abbrev pub badKey : List ℕ → Bool
-badKey k = not (keySize (length k - 32))
+badKey k = not (keyTaken k)
 
 unfoldable pub badKeys : List ℕ → List ℕ → Bool
 badKeys o w = badKey o || badKey w

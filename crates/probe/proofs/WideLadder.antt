@@ -15,7 +15,7 @@ use Rattle.schedule.specs.KeyExpansion.{roundKeys}
 use Rattle.cipher.specs.Cipher.{crypted}
 use Rattle.aes.specs.Aes.{aes}
 use Rattle.aes.specs.Promise.{crypted-aes}
-use Rattle.wide.specs.Wide.{wide}
+use Rattle.mode.specs.Wide.{wide}
 use Rattle.probe.specs.Calls.{wideNumber, wideAfterwards, WideCalled}
 
 and-false : (a : Bool) → a && false ≡ false

@@ -9,7 +9,7 @@ use lib.ListN.{length}
 use Rattle.block.specs.Blocks.{onBlocks}
 use Rattle.schedule.specs.Size.{keySize}
 use Rattle.aes.specs.Aes.{aes}
-use Rattle.wide.specs.Wide.{wide}
+use Rattle.mode.specs.Wide.{wide}
 
 abbrev pub BlocksCalled : Bool → List ℕ → List ℕ → ℕ → List ℕ → Type 0
 BlocksCalled back k s n s′ = (n ≡ cond (keySize (length k)) 0 1) × (s′ ≡ cond (keySize (length k)) (onBlocks (map (aes back k)) s) s)

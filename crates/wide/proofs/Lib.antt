@@ -1,8 +1,4 @@
--- What is proved of the wide block and T_star, and the laws by which the code is joined to them.
-pub mod Totals
-pub mod Undo
-pub mod Lengths
-pub mod TStarLaws
+-- The laws by which the code is joined to the definitions.
 pub mod PassLaws
 pub mod AssociatedLaws
 pub mod MixLaws

@@ -14,7 +14,7 @@ use Rattle.block.specs.Blocks.{full, blocks}
 use Rattle.block.specs.Double.{double, pad}
 use Rattle.block.proofs.XorLaws.{length-⊕}
 use Rattle.block.proofs.BlockLaws.{first-block, first-rest}
-use Rattle.wide.specs.Wide.{total, padded, begins, mask, cccOf, MC1}
+use Rattle.mode.specs.Wide.{total, padded, begins, mask, cccOf, MC1}
 use Rattle.wide.specs.Passes.{totalOf}
 
 -- ---- steps 18 and 40: a running sum

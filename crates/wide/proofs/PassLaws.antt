@@ -9,7 +9,7 @@ use Rattle.block.specs.Double.{double}
 use Rattle.block.proofs.XorLaws.{length-⊕, ⊕-comm}
 use Rattle.block.proofs.DoubleLaws.{length-double}
 use Rattle.block.proofs.BlockLaws.{Sized}
-use Rattle.wide.specs.Wide.{enter, leave}
+use Rattle.mode.specs.Wide.{enter, leave}
 use Rattle.wide.specs.Passes.{masked}
 
 pub sized-masked : (L : List ℕ) (bs : List (List ℕ)) → Sized bs → Sized (masked L bs)

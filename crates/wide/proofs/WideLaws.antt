@@ -12,10 +12,10 @@ use Rattle.block.specs.Blocks.{blockAt, withBlock, full, rest, blocks, join, on
 use Rattle.block.specs.Double.{double}
 use Rattle.block.proofs.XorLaws.{length-⊕}
 use Rattle.block.proofs.BlockLaws.{Sized, sized-blocks, first-block, first-rest, length-rest, length-join, full-join, rest-join, blocks-of, on-join}
-use Rattle.wide.specs.Wide.{enter, total, padded, mask, middle, MP, MC1, mm, mc1, m1, Cm, CCCs, CCC1, wideOn, wide}
+use Rattle.mode.specs.Wide.{enter, total, padded, mask, middle, MP, MC1, mm, mc1, m1, Cm, CCCs, CCC1, wideOn, wide}
+use Rattle.mode.proofs.Undo.{length-blocks}
+use Rattle.mode.proofs.Lengths.{length-enter}
 use Rattle.wide.specs.Passes.{masked, totalOf, mixedOn, mixed}
-use Rattle.wide.proofs.Undo.{length-blocks}
-use Rattle.wide.proofs.Lengths.{length-enter}
 use Rattle.wide.proofs.PassLaws.{sized-masked, enter-masked, leave-masked}
 use Rattle.wide.proofs.MixLaws.{length-ccc}
 use Rattle.wide.proofs.ShortLaws.{shorted}

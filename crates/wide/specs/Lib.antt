@@ -1,7 +1,2 @@
--- The wide block of 000 over any block permutation, L and T_star; T_star; and 01's edges of them.
-pub mod Permutation
-pub mod Wide
+-- The wide block in the steps that the code takes.
 pub mod Passes
-pub mod TStar
-pub mod Edges
-pub mod Examples

@@ -6,7 +6,7 @@ use Prim.Native.Nat.{ℕ}
 use Rattle.block.specs.Xor.{_⊕_}
 use Rattle.block.specs.Blocks.{full, rest, blocks, join}
 use Rattle.block.specs.Double.{double}
-use Rattle.wide.specs.Wide.{total, padded, Cm, CCCs, CCC1}
+use Rattle.mode.specs.Wide.{total, padded, Cm, CCCs, CCC1}
 
 -- block i xor 2^(i-1)·L
 unfoldable pub masked : List ℕ → List (List ℕ) → List (List ℕ)

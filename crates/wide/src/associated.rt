@@ -4,7 +4,7 @@ ghost use mathlib.Core.Bool.{false};
 ghost use Prim.Native.Nat.{_<_};
 ghost use Rattle.block.specs.Xor.{_⊕_};
 ghost use Rattle.cipher.specs.Cipher.{crypted};
-ghost use Rattle.wide.specs.TStar.{eme2TStar};
+ghost use Rattle.mode.specs.TStar.{eme2TStar};
 use block::doubled;
 use block::padded;
 use block::xor;

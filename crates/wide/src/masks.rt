@@ -6,7 +6,7 @@ ghost use Prim.Native.Nat.{_+_, _/_, _≤_, _<_};
 ghost use lib.ListN.{length, take, drop};
 ghost use Rattle.block.specs.Blocks.{blockAt, withBlock, onBlocks};
 ghost use Rattle.cipher.specs.Cipher.{crypted};
-ghost use Rattle.wide.specs.Wide.{mask, cccOf, middle};
+ghost use Rattle.mode.specs.Wide.{mask, cccOf, middle};
 use aes::crypt;
 use block::xor;
 

@@ -6,7 +6,7 @@ ghost use lib.ListN.{length, take, drop};
 ghost use Rattle.block.specs.Xor.{_⊕_};
 ghost use Rattle.block.specs.Blocks.{full, rest};
 ghost use Rattle.cipher.specs.Cipher.{crypted};
-ghost use Rattle.wide.specs.Wide.{MC1};
+ghost use Rattle.mode.specs.Wide.{MC1};
 ghost use Rattle.wide.specs.Passes.{totalOf, mixed};
 use super::masks;
 use aes::crypt;

@@ -5,7 +5,7 @@ ghost use Prim.Native.Nat.{_≤_, _<_};
 ghost use lib.ListN.{length};
 ghost use Rattle.block.specs.Blocks.{onBlocks};
 ghost use Rattle.cipher.specs.Cipher.{crypted};
-ghost use Rattle.wide.specs.Wide.{wide};
+ghost use Rattle.mode.specs.Wide.{wide};
 ghost use Rattle.wide.specs.Passes.{masked};
 use super::mixing::mix;
 

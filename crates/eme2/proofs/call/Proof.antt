@@ -2,11 +2,9 @@
 -- Assumes nothing.
 use mathlib.Core.Path.{_≡_, sym, _∙_}
 use mathlib.Core.Bool.{true}
-use Prim.Native.Nat.{_-_}
 use borrow.Author.Needs.{needs}
 use borrow.Author.Tests.{not-true, not-false}
-use lib.ListN.{length}
-use Rattle.schedule.specs.Size.{keySize}
+use Rattle.eme2.specs.Transform.{keyTaken}
 use Rattle.eme2.proofs.Ladder.{key-refused, message-below, message-above, data-above, done}
 use Rattle.eme2.proofs.call.Statement.{statement}
 use Rattle.eme2.proofs.call.Tie as tie
@@ -21,7 +19,7 @@ returns c =
     key-refused (a .back) (a .key .now) (a .ad .now) (a .message .now) (sym (k .key-taken .ensures) ∙ not-true (k .key-taken .result) (c .if1 .taken))
 
 -- past the first test the key has one of the sizes
-sized : (c : tie.Else1) → keySize (length (c .before .before .before .before .before .args .key .now) - 32) ≡ true
+sized : (c : tie.Else1) → keyTaken (c .before .before .before .before .before .args .key .now) ≡ true
 sized c = sym (c .before .key-taken .ensures) ∙ not-false (c .before .key-taken .result) (c .if1 .left)
 
 returns-2 : tie.Need-returns-2

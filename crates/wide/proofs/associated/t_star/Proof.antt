@@ -12,8 +12,8 @@ use Rattle.block.specs.Xor.{_⊕_}
 use Rattle.block.specs.Double.{double}
 use Rattle.cipher.specs.Cipher.{crypted}
 use Rattle.cipher.proofs.Undo.{length-crypted}
-use Rattle.wide.specs.Wide.{total}
-use Rattle.wide.specs.TStar.{shortTT, eme2TStar}
+use Rattle.mode.specs.Wide.{total}
+use Rattle.mode.specs.TStar.{shortTT, eme2TStar}
 use Rattle.wide.proofs.AssociatedLaws.{left, left-turn, left-end, none-left, some-left, star-empty, star-start}
 use Rattle.wide.proofs.associated.t_star.Statement.{statement}
 use Rattle.wide.proofs.associated.t_star.Tie as tie

@@ -9,7 +9,7 @@ use Rattle.block.specs.Blocks.{blockAt, onBlocks}
 use Rattle.block.proofs.BlockLaws.{length-blockAt, on-turn, on-done}
 use Rattle.cipher.specs.Cipher.{crypted}
 use Rattle.cipher.proofs.Undo.{length-crypted}
-use Rattle.wide.specs.Wide.{cccOf, middle}
+use Rattle.mode.specs.Wide.{cccOf, middle}
 use Rattle.wide.proofs.MixLaws.{length-ccc}
 use Rattle.wide.proofs.masks.blocks.Statement.{statement}
 use Rattle.wide.proofs.masks.blocks.Tie as tie

@@ -7,7 +7,7 @@ use lib.ListN.{replicate}
 use Rattle.block.specs.Xor.{_⊕_}
 use Rattle.block.specs.Blocks.{full, rest, blocks}
 use Rattle.block.specs.Double.{double, pad}
-use Rattle.wide.specs.Wide.{total}
+use Rattle.mode.specs.Wide.{total}
 
 -- steps 4 to 6 and 10: TTi = f(mask xor Ti) xor mask, the mask doubled for each next block
 unfoldable pub TTs : (List ℕ → List ℕ) → List ℕ → List (List ℕ) → List (List ℕ)

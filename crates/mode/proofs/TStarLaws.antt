@@ -12,10 +12,10 @@ use Rattle.block.proofs.XorLaws.{block-⊕}
 use Rattle.block.proofs.BytesLaws.{bytes-drop, bytes-zeros}
 use Rattle.block.proofs.BlockLaws.{length-rest}
 use Rattle.block.proofs.DoubleLaws.{block-double, block-pad}
-use Rattle.wide.specs.Permutation.{Undoes}
-use Rattle.wide.specs.TStar.{TTs, doubles, shortTT, sum, someTStar, tStar, eme2TStar}
-use Rattle.wide.proofs.Totals.{AllBlocks, all-append, block-total}
-use Rattle.wide.proofs.Undo.{all-blocks}
+use Rattle.mode.specs.Permutation.{Undoes}
+use Rattle.mode.specs.TStar.{TTs, doubles, shortTT, sum, someTStar, tStar, eme2TStar}
+use Rattle.mode.proofs.Totals.{AllBlocks, all-append, block-total}
+use Rattle.mode.proofs.Undo.{all-blocks}
 
 block-sum : (Ts : List (List ℕ)) → AllBlocks Ts → Block (sum Ts)
 unfolding sum

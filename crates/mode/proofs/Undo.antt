@@ -17,9 +17,9 @@ use Rattle.block.proofs.BytesLaws.{bytes-take, bytes-drop}
 use Rattle.block.proofs.BlockLaws.{Sized, blocks-of, rest-join, join-blocks, length-rest}
 use Rattle.block.proofs.XorLaws.{length-⊕, ⊕-undo, ⊕-comm, bytes-⊕, block-⊕}
 use Rattle.block.proofs.DoubleLaws.{block-double, block-pad}
-use Rattle.wide.specs.Wide.{enter, leave, begins, mask, cccOf, middle, total, padded, MP, MC1, mm, mc1, m1, Cm, CCCs, CCC1, wideOn, wide}
-use Rattle.wide.specs.Permutation.{Undoes}
-use Rattle.wide.proofs.Totals.{AllBlocks, all-append, block-total, total-undo}
+use Rattle.mode.specs.Wide.{enter, leave, begins, mask, cccOf, middle, total, padded, MP, MC1, mm, mc1, m1, Cm, CCCs, CCC1, wideOn, wide}
+use Rattle.mode.specs.Permutation.{Undoes}
+use Rattle.mode.proofs.Totals.{AllBlocks, all-append, block-total, total-undo}
 
 -- around L, and back
 around : {L X : List ℕ} → Block L → Block X → L ⊕ (X ⊕ L) ≡ X

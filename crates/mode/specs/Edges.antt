@@ -9,7 +9,7 @@ use Rattle.block.specs.Blocks.{full, rest, blocks}
 use Rattle.block.specs.Double.{double, pad}
 use Rattle.sbox.specs.Sub.{sub}
 use Rattle.sbox.specs.Examples.{D12}
-use Rattle.wide.specs.Wide.{begins}
+use Rattle.mode.specs.Wide.{begins}
 
 -- the lengths of the full blocks of n bytes, and of what is left
 abbrev pub parts : ℕ → List ℕ

@@ -7,7 +7,7 @@ use native.Mathlib.Nat.{le-of-eq}
 use Rattle.block.specs.Xor.{_⊕_}
 use Rattle.block.specs.Bytes.{Block}
 use Rattle.block.proofs.XorLaws.{⊕-undo, ⊕-comm, ⊕-assoc, block-⊕}
-use Rattle.wide.specs.Wide.{total}
+use Rattle.mode.specs.Wide.{total}
 
 -- a list of blocks
 abbrev pub AllBlocks : List (List ℕ) → Type 0

@@ -11,10 +11,10 @@ use Rattle.block.specs.Blocks.{full, rest, blocks, join}
 use Rattle.block.specs.Double.{double}
 use Rattle.block.proofs.BytesLaws.{bytes-append, bytes-drop, bytes-zeros}
 use Rattle.block.proofs.BlockLaws.{length-rest, length-join}
-use Rattle.wide.specs.Permutation.{Undoes}
-use Rattle.wide.specs.Wide.{enter, leave, middle, Cm, CCCs, CCC1, wideOn, wide}
-use Rattle.wide.proofs.Totals.{AllBlocks}
-use Rattle.wide.proofs.Undo.{all-sized, all-blocks, length-blocks, block-enter, block-leave, block-CCC1, block-CCCs, length-Cm, bytes-Cm}
+use Rattle.mode.specs.Permutation.{Undoes}
+use Rattle.mode.specs.Wide.{enter, leave, middle, Cm, CCCs, CCC1, wideOn, wide}
+use Rattle.mode.proofs.Totals.{AllBlocks}
+use Rattle.mode.proofs.Undo.{all-sized, all-blocks, length-blocks, block-enter, block-leave, block-CCC1, block-CCCs, length-Cm, bytes-Cm}
 
 pub length-enter : (f : List ℕ → List ℕ) (L : List ℕ) (Ps : List (List ℕ)) → length (enter f L Ps) ≡ length Ps
 unfolding enter
