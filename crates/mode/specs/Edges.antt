@@ -3,7 +3,7 @@
 use mathlib.Core.Path.{_≡_, refl}
 use mathlib.Core.Bool.{cond}
 use mathlib.Core.List.{List, [], _∷_, _++_, map}
-use Prim.Native.Nat.{ℕ, zero, suc, _-_, _/_}
+use Prim.Native.Nat.{ℕ, zero, suc, _-_}
 use lib.ListN.{length, replicate}
 use Rattle.block.specs.Blocks.{full, rest, blocks}
 use Rattle.block.specs.Double.{double, pad}
@@ -11,15 +11,23 @@ use Rattle.sbox.specs.Sub.{sub}
 use Rattle.sbox.specs.Examples.{D12}
 use Rattle.mode.specs.Wide.{begins}
 
--- the lengths of the full blocks of n bytes, and of what is left
+-- the length of a short last block, if there is one
+abbrev pub shortLength : List ℕ → List ℕ
+shortLength [] = []
+shortLength (x ∷ short) = length (x ∷ short) ∷ []
+
+-- the lengths of the blocks that n bytes are split into
 abbrev pub parts : ℕ → List ℕ
 unfolding blocks
-parts n = map length (blocks (full (replicate n 0)) (replicate n 0)) ++ (length (rest (replicate n 0)) ∷ [])
+parts n = map length (blocks (full (replicate n 0)) (replicate n 0)) ++ shortLength (rest (replicate n 0))
 
--- those of the blocks i to i + n - 1 that begin a new mask
+-- those of the blocks i to i + n - 1 that begin a new mask, and those of n bytes after the first block: full blocks alone
 abbrev pub newMasks : ℕ → ℕ → List ℕ
 newMasks i zero = []
 newMasks i (suc n) = cond (begins i) (i ∷ newMasks (suc i) n) (newMasks (suc i) n)
+
+abbrev pub masksOf : ℕ → List ℕ
+masksOf n = newMasks 2 (full (replicate n 0) - 1)
 
 -- the table: one row for each of 01's
 pub record Edges : Type 0 where
@@ -29,11 +37,11 @@ pub record Edges : Type 0 where
   pub D4 : double (replicate 16 0xff) ≡ 0x79 ∷ replicate 15 0xff
   pub D5 : pad (0xab ∷ []) ≡ 0xab ∷ 0x80 ∷ replicate 14 0x00
   pub D6 : parts 33 ≡ 16 ∷ 16 ∷ 1 ∷ []
-  pub D7 : parts 32 ≡ 16 ∷ 16 ∷ 0 ∷ []
-  pub D8 : newMasks 2 (2048 / 16 - 1) ≡ []
-  pub D9 : newMasks 2 (2049 / 16 - 1) ≡ []
-  pub D10 : newMasks 2 (2064 / 16 - 1) ≡ 129 ∷ []
-  pub D11 : newMasks 2 (2065 / 16 - 1) ≡ 129 ∷ []
+  pub D7 : parts 32 ≡ 16 ∷ 16 ∷ []
+  pub D8 : masksOf 2048 ≡ []
+  pub D9 : masksOf 2049 ≡ []
+  pub D10 : masksOf 2064 ≡ 129 ∷ []
+  pub D11 : masksOf 2065 ≡ 129 ∷ []
   pub D12 : sub 0x00 ≡ 0x63
 
 pub edges : Edges

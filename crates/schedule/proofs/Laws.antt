@@ -34,6 +34,10 @@ either false b f g h = g h
 pub key-sizes : (n : ℕ) → keySize n ≡ true → (4 ≤ n / 4) × (n / 4 ≤ 8) × (4 * (n / 4) ≡ n)
 key-sizes n = either (eqb n 16) (eqb n 32) (λ e. omega (arith, eqb-true n 16 e)) (λ e. omega (arith, eqb-true n 32 e))
 
+-- eleven round keys of a key of 16 bytes, fifteen of one of 32
+pub round-key-count : (key : List ℕ) → (length key ≡ 16 → Nr key + 1 ≡ 11) × (length key ≡ 32 → Nr key + 1 ≡ 15)
+round-key-count key = (λ h. omega arith, λ h. omega arith)
+
 -- ---- words
 
 -- n bytes of w from `at` on, place by place
