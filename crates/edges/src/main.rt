@@ -7,13 +7,13 @@
 // other direction then gave the message back; where it is a refusal, whether the message is as it was.
 // The lines to expect are the second implementation's (host/rust/second/examples/edges.rs).
 use libc::STDOUT_FILENO;
-ghost use mathlib.Core.Bool.{true, false};
+use patterns::digest;
+use patterns::fill;
+use patterns::is_pattern;
 ghost use mathlib.Core.Path.{_≡_};
 ghost use Prim.Native.Nat.{_≤_, _<_};
 ghost use lib.ListN.{length};
 ghost use Rattle.lagunedo.specs.Calls.{Eme2Called};
-ghost use Rattle.edges.specs.Pattern.{patternByte, Pattern};
-ghost use Rattle.edges.specs.Digest.{digestStep, digestFrom};
 
 // None, and beside the two lengths of a key that 01 takes.
 const KEYS: [usize; 7] = [0, 47, 48, 49, 63, 64, 65];
@@ -75,9 +75,7 @@ fn both_ways(key: &[u8], ad: &[u8], message: &mut [u8], n: usize)
 }
 
 // Makes one call on a fresh message, and prints its line.
-fn line(back: bool, key: &[u8], ad: &[u8], message: &mut [u8])
-    requires { ⌜ length (now message) ≤ 65537 ⌝ }
-{
+fn line(back: bool, key: &[u8], ad: &[u8], message: &mut [u8]) {
     print_lengths(key.len(), ad.len(), message.len());
     print_direction(back);
     fill(message, 3, 0);
@@ -91,13 +89,11 @@ fn line(back: bool, key: &[u8], ad: &[u8], message: &mut [u8])
 }
 
 // The rest of the line of a call that was made: the digest, and whether the other direction undoes it.
-fn done(back: bool, key: &[u8], ad: &[u8], message: &mut [u8])
-    requires { ⌜ length (now message) ≤ 65537 ⌝ }
-{
+fn done(back: bool, key: &[u8], ad: &[u8], message: &mut [u8]) {
     print(b" ");
     io::print_hex(STDOUT_FILENO, digest(message), 8);
     if call(!back, key, ad, message) == 0 {
-        if kept(message) {
+        if is_pattern(message, 3, 0) {
             print(b" undone\n");
             return;
         }
@@ -106,10 +102,8 @@ fn done(back: bool, key: &[u8], ad: &[u8], message: &mut [u8])
 }
 
 // The rest of the line of a call that was refused.
-fn refused(message: &[u8])
-    requires { ⌜ length (now message) ≤ 65537 ⌝ }
-{
-    if kept(message) {
+fn refused(message: &[u8]) {
+    if is_pattern(message, 3, 0) {
         print(b" kept\n");
         return;
     }
@@ -124,61 +118,6 @@ fn call(back: bool, key: &[u8], ad: &[u8], message: &mut [u8]) -> u32
         return lagunedo::lagunedo_eme2_decipher(key, ad, message);
     }
     lagunedo::lagunedo_eme2_encipher(key, ad, message)
-}
-
-// Whether the message is the pattern that it was filled with.
-fn kept(message: &[u8]) -> bool
-    requires { ⌜ length (now message) ≤ 65537 ⌝ }
-    ensures { λ r. ⌜ (r ≡ true → Pattern 3 0 (now (message .entry))) × (r ≡ false → Pattern 3 0 (now (message .entry)) → ⊥) ⌝ }
-{
-    let mut i = 0;
-    while i < message.len() {
-        if message[i] != pattern(3, 0, i) {
-            return false;
-        }
-        i += 1;
-    }
-    true
-}
-
-// The pattern, of any length.
-fn fill(s: &mut [u8], by: usize, from: usize)
-    requires { ⌜ (length (now s) ≤ 65537) × (by < 256) × (from < 256) ⌝ }
-    ensures { λ _. ⌜ Pattern by from (now (s .exit)) ⌝ }
-{
-    let mut i = 0;
-    while i < s.len() {
-        s[i] = pattern(by, from, i);
-        i += 1;
-    }
-}
-
-// Byte i of a pattern: it goes on by `by` from `from`, and by one more each 256 bytes, so that it does not begin anew there.
-fn pattern(by: usize, from: usize, i: usize) -> u8
-    requires { ⌜ (by < 256) × (from < 256) × (i < 65537) ⌝ }
-    ensures { λ r. ⌜ r ≡ patternByte by from i ⌝ }
-{
-    ((i * by + i / 256 + from) % 256) as u8
-}
-
-// A number that tells messages apart.
-fn digest(s: &[u8]) -> u64
-    ensures { λ r. ⌜ r ≡ digestFrom 0 (now (s .entry)) ⌝ }
-{
-    let mut h = 0;
-    let mut i = 0;
-    while i < s.len() {
-        h = digest_step(h, s[i]);
-        i += 1;
-    }
-    h
-}
-
-fn digest_step(h: u64, x: u8) -> u64
-    requires { ⌜ h < 2147483647 ⌝ }
-    ensures { λ r. ⌜ r ≡ digestStep h x ⌝ }
-{
-    (h * 257 + x as u64 + 1) % 2147483647
 }
 
 fn key_length(i: usize) -> usize

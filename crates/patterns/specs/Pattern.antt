@@ -1,4 +1,4 @@
--- The patterns that key, associated data and message are filled with.
+-- The patterns that the programs fill keys, associated data, messages, texts and stores with.
 -- Assumes nothing.
 use mathlib.Core.Path.{_≡_}
 use mathlib.Core.List.{List}
@@ -7,7 +7,7 @@ use lib.ListN.{length, getD}
 
 -- byte i of the pattern that goes on by `by` from `from`
 abbrev pub patternByte : ℕ → ℕ → ℕ → ℕ
-patternByte by from i = (i * by + i / 256 + from) % 256
+patternByte by from i = ((i % 256) * (by % 256) + i / 256 + from % 256) % 256
 
 -- a list is the pattern, as far as it goes
 abbrev pub Pattern : ℕ → ℕ → List ℕ → Type 0

@@ -1,13 +1,13 @@
--- `edges::fill` meets its contract: what is passed is the pattern.
+-- `patterns::fill` meets its contract: what is passed is the pattern.
 -- Assumes nothing.
 use mathlib.Core.Path.{_≡_}
 use Prim.Native.Nat.{ℕ, _≤_, _<_, _-_}
 use native.Mathlib.Omega.{arith}
 use lib.ListN.{length, length-set, getD}
-use Rattle.edges.specs.Pattern.{patternByte}
-use Rattle.edges.proofs.Laws.{pattern-turn}
-use Rattle.edges.proofs.fill.Statement.{statement}
-use Rattle.edges.proofs.fill.Tie as tie
+use Rattle.patterns.specs.Pattern.{patternByte}
+use Rattle.patterns.proofs.Laws.{pattern-turn}
+use Rattle.patterns.proofs.fill.Statement.{statement}
+use Rattle.patterns.proofs.fill.Tie as tie
 
 abbrev Inv-loop : tie.InvT-loop
 Inv-loop s₀ by from i₀ s i = (i ≤ length s) × (length s ≡ length s₀) × ((k : ℕ) → k < i → getD s k 0 ≡ patternByte by from k)

@@ -1,14 +1,14 @@
--- `edges::digest` meets its contract: what is left of the message, from the digest so far, gives the whole digest.
+-- `patterns::digest` meets its contract: what is left of the message, from the digest so far, gives the whole digest.
 -- Assumes nothing.
 use mathlib.Core.Path.{_≡_, refl, ap, _∙_}
 use mathlib.Core.List.{List}
 use Prim.Native.Nat.{ℕ, _+_, _≤_, _<_, _-_}
 use native.Mathlib.Omega.{arith}
 use lib.ListN.{length, drop}
-use Rattle.edges.specs.Digest.{digestFrom}
-use Rattle.edges.proofs.Laws.{digest-turn, digest-end}
-use Rattle.edges.proofs.digest.Statement.{statement}
-use Rattle.edges.proofs.digest.Tie as tie
+use Rattle.patterns.specs.Digest.{digestFrom}
+use Rattle.patterns.proofs.Laws.{digest-turn, digest-end}
+use Rattle.patterns.proofs.digest.Statement.{statement}
+use Rattle.patterns.proofs.digest.Tie as tie
 
 abbrev Inv-loop : tie.InvT-loop
 Inv-loop s h₀ i₀ h i = (i ≤ length s) × (h < 2147483647) × (digestFrom h (drop i s) ≡ digestFrom 0 s)

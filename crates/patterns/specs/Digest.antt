@@ -1,4 +1,4 @@
--- The digest of a message: its bytes, each and one more, as the digits of base 257, modulo a prime below 2^31.
+-- The digest of a slice: its bytes, each and one more, as the digits of base 257, modulo a prime below 2^31.
 -- Assumes nothing.
 use mathlib.Core.List.{List, [], _∷_}
 use Prim.Native.Nat.{ℕ, _+_, _*_, _%_}

@@ -1,26 +1,25 @@
--- `edges_store::past_words` meets its contract: it stays within the line.
+-- `edges_store::script::past_line` meets its contract: it stays within the text, and goes on by a byte at least.
 -- Assumes nothing.
 use Prim.Native.Nat.{_≤_, _-_}
 use native.Mathlib.Omega.{arith}
-use borrow.Author.Needs.{needs}
 use lib.ListN.{length}
-use Rattle.edges_store.proofs.past_words.Statement.{statement}
-use Rattle.edges_store.proofs.past_words.Tie as tie
+use Rattle.edges_store.proofs.script.past_line.Statement.{statement}
+use Rattle.edges_store.proofs.script.past_line.Tie as tie
 
 abbrev Inv-loop : tie.InvT-loop
-Inv-loop line from i₀ i = i ≤ length line
+Inv-loop text at i₀ i = (at ≤ i) × (i ≤ length text)
 
 abbrev μ-loop : tie.MeasureT-loop
-μ-loop line from i₀ i = length line - i
+μ-loop text at i₀ i = length text - i
 
 loop-holds : tie.Need-loop-holds Inv-loop μ-loop
 loop-holds c = omega arith
 
-shared-slice-read-digit : tie.Need-shared-slice-read-digit Inv-loop μ-loop
-shared-slice-read-digit c = omega arith
+shared-slice-read-if1 : tie.Need-shared-slice-read-if1 Inv-loop μ-loop
+shared-slice-read-if1 c = omega arith
 
-digit-requires : tie.Need-digit-requires Inv-loop μ-loop
-digit-requires c κs = search needs
+add-result : tie.Need-add-result Inv-loop μ-loop
+add-result c = omega arith
 
 returns : tie.Need-returns Inv-loop μ-loop
 returns c = omega arith
@@ -37,15 +36,15 @@ loop-again c = omega arith
 returns-2 : tie.Need-returns-2 Inv-loop μ-loop
 returns-2 c = omega arith
 
-pub past-words-spec : {M : Type 1} → statement M
-past-words-spec =
+pub past-line-spec : {M : Type 1} → statement M
+past-line-spec =
     tie.close
     (tie.spec
     Inv-loop
     μ-loop
     loop-holds
-    shared-slice-read-digit
-    digit-requires
+    shared-slice-read-if1
+    add-result
     returns
     add-i
     loop-less

@@ -1,0 +1,2 @@
+-- The laws that the loops go by.
+mod Laws
