@@ -8,3 +8,5 @@ pub mod ArrayBytes
 pub mod DoubleLaws
 pub mod PadLaws
 pub mod RowLaws
+pub mod PartLaws
+pub mod BoolLaws

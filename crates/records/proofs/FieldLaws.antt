@@ -13,7 +13,7 @@ use lib.ListN.{length, getD, take, drop, length-drop, drop-of-length-le}
 use lib.Seq.{take-all, drop-cons}
 use Rattle.block.specs.Tab.{byte}
 use Rattle.block.specs.Bytes.{Bytes}
-use Rattle.records.specs.Record.{num, rev, mark, len, allZero, soundUsed, sound}
+use Rattle.records.specs.Record.{textMost, greatestRevision, num, rev, mark, len, allZero, soundUsed, sound}
 
 -- ---- zeros, in a loop that goes through them
 
@@ -62,7 +62,7 @@ pub record Used (r : List ℕ) : Type 0 where
   pub marked : mark r ≤ 2
   pub spare : byte r 7 ≡ 0
   pub atLeast : 16 ≤ len r
-  pub atMost : len r ≤ 2096
+  pub atMost : len r ≤ textMost
   pub spares : allZero (take 6 (drop 10 r)) ≡ true
   pub after : allZero (drop (16 + len r) r) ≡ true
 
@@ -70,14 +70,14 @@ module _ (r : List ℕ) where
   pub used : soundUsed r ≡ true → Used r
   unfolding soundUsed
   used s =
-      let h = all (ltb 0 (rev r)) (leb (mark r) 2) (eqb (byte r 7) 0) (leb 16 (len r)) (leb (len r) 2096)
+      let h = all (ltb 0 (rev r)) (leb (mark r) 2) (eqb (byte r 7) 0) (leb 16 (len r)) (leb (len r) textMost)
       (allZero (take 6 (drop 10 r))) (allZero (drop (16 + len r) r)) s in
       record {
         revised = ltb-true 0 (rev r) (h .0);
         marked = leb-true (mark r) 2 (h .1);
         spare = eqb-true (byte r 7) 0 (h .2);
         atLeast = leb-true 16 (len r) (h .3);
-        atMost = leb-true (len r) 2096 (h .4);
+        atMost = leb-true (len r) textMost (h .4);
         spares = h .5;
         after = h .6;
       }
@@ -89,13 +89,13 @@ module _ (r : List ℕ) where
   unsound-spares e = unsound (λ (u : Used r). no (sym e ∙ u .spares))
 
   -- where all tests but the last pass, the last decides
-  pub used-last : 1 ≤ rev r → mark r ≤ 2 → byte r 7 ≡ 0 → 16 ≤ len r → len r ≤ 2096 → allZero (take 6 (drop 10 r)) ≡ true
+  pub used-last : 1 ≤ rev r → mark r ≤ 2 → byte r 7 ≡ 0 → 16 ≤ len r → len r ≤ textMost → allZero (take 6 (drop 10 r)) ≡ true
       → soundUsed r ≡ allZero (drop (16 + len r) r)
   unfolding soundUsed
   used-last a b c d e f =
       λ i. lt-ltb 0 (rev r) a i
       && (le-leb (mark r) 2 b i
-      && (eq-eqb (byte r 7) 0 c i && (le-leb 16 (len r) d i && (le-leb (len r) 2096 e i && (f i && allZero (drop (16 + len r) r))))))
+      && (eq-eqb (byte r 7) 0 c i && (le-leb 16 (len r) d i && (le-leb (len r) textMost e i && (f i && allZero (drop (16 + len r) r))))))
 
   -- the bytes after the text, as the code takes them
   pub rest-part : (l : ℕ) → l ≡ len r → take (length r - (16 + l)) (drop (16 + l) r) ≡ drop (16 + len r) r
@@ -113,7 +113,7 @@ module _ (r : List ℕ) where
   pub sound-used : sound r ≡ true → (num r ≡ 0 → ⊥) → Used r
   sound-used s h = used (sym (sound-taken h) ∙ s)
 
-  pub sound-len : sound r ≡ true → (num r ≡ 0 → ⊥) → (16 ≤ len r) × (len r ≤ 2096)
+  pub sound-len : sound r ≡ true → (num r ≡ 0 → ⊥) → (16 ≤ len r) × (len r ≤ textMost)
   sound-len s h = let u = sound-used s h in (u .atLeast, u .atMost)
 
   pub sound-fields : sound r ≡ true → (num r ≡ 0 → ⊥) → (1 ≤ rev r) × (mark r ≤ 2)
@@ -124,7 +124,7 @@ module _ (r : List ℕ) where
   unfolding num
   num-bound b = omega (arith, b .below 0, b .below 1, b .below 2, b .below 3)
 
-  pub rev-bound : Bytes r → rev r < 65536
+  pub rev-bound : Bytes r → rev r ≤ greatestRevision
   unfolding rev
   rev-bound b = omega (arith, b .below 4, b .below 5)
 

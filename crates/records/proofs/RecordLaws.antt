@@ -1,5 +1,4 @@
--- A record written whole has the fields that it was written with, and is sound where they are as tabled; and the text of a sheet under the new
--- key is the text that it was written with.
+-- A record written whole has the fields that it was written with, and is sound if they are as tabled.
 -- Assumes nothing.
 use mathlib.Core.Path.{_≡_, refl, sym, ap, ap₂, _∙_}
 use mathlib.Core.Bool.{true}
@@ -12,7 +11,7 @@ use lib.Seq.{take-at, drop-at, drop-drop}
 use Rattle.block.specs.Bytes.{Bytes}
 use Rattle.block.specs.Tab.{byte}
 use Rattle.block.proofs.BytesLaws.{bytes-cons, bytes-zeros}
-use Rattle.records.specs.Record.{num, rev, mark, len, leadOf, stored, allZero, sound, lead, recordOf}
+use Rattle.records.specs.Record.{recordSize, textMost, greatestRevision, num, rev, mark, len, leadOf, stored, allZero, sound, lead, recordOf}
 use Rattle.records.proofs.FieldLaws.{sound-taken, used-last}
 use Rattle.records.proofs.WriteLaws.{length-lead}
 
@@ -40,7 +39,7 @@ module _ (n v m : ℕ) (t : List ℕ) where
   unfolding num recordOf lead
   num-record h = omega arith
 
-  pub rev-record : v < 65536 → rev (recordOf n v m t) ≡ v
+  pub rev-record : v ≤ greatestRevision → rev (recordOf n v m t) ≡ v
   unfolding rev recordOf lead
   rev-record h = omega arith
 
@@ -50,27 +49,27 @@ module _ (n v m : ℕ) (t : List ℕ) where
 
   pub lead-record : leadOf (recordOf n v m t) ≡ lead n v m (length t)
   unfolding leadOf recordOf
-  lead-record = take-at (lead n v m (length t)) (t ++ replicate (2096 - length t) 0) 16 (length-lead n v m (length t))
+  lead-record = take-at (lead n v m (length t)) (t ++ replicate (textMost - length t) 0) 16 (length-lead n v m (length t))
 
-  body : drop 16 (recordOf n v m t) ≡ t ++ replicate (2096 - length t) 0
+  body : drop 16 (recordOf n v m t) ≡ t ++ replicate (textMost - length t) 0
   unfolding recordOf
-  body = drop-at (lead n v m (length t)) (t ++ replicate (2096 - length t) 0) 16 (length-lead n v m (length t))
+  body = drop-at (lead n v m (length t)) (t ++ replicate (textMost - length t) 0) 16 (length-lead n v m (length t))
 
-  module _ (h : length t ≤ 2096) where
+  module _ (h : length t ≤ textMost) where
     pub len-record : len (recordOf n v m t) ≡ length t
     unfolding len recordOf lead
     len-record = omega arith
 
     pub stored-record : stored (recordOf n v m t) ≡ t
     unfolding stored
-    stored-record = ap₂ take len-record body ∙ take-at t (replicate (2096 - length t) 0) (length t) refl
+    stored-record = ap₂ take len-record body ∙ take-at t (replicate (textMost - length t) 0) (length t) refl
 
-    pub length-record : length (recordOf n v m t) ≡ 2112
+    pub length-record : length (recordOf n v m t) ≡ recordSize
     unfolding recordOf
     length-record =
-        length-append (lead n v m (length t)) (t ++ replicate (2096 - length t) 0)
+        length-append (lead n v m (length t)) (t ++ replicate (textMost - length t) 0)
         ∙ omega
-        (arith, length-lead n v m (length t), length-append t (replicate (2096 - length t) 0), length-replicate {A = ℕ} (2096 - length t) 0)
+        (arith, length-lead n v m (length t), length-append t (replicate (textMost - length t) 0), length-replicate {A = ℕ} (textMost - length t) 0)
 
     rest : allZero (drop (16 + len (recordOf n v m t)) (recordOf n v m t)) ≡ true
     rest =
@@ -78,8 +77,8 @@ module _ (n v m : ℕ) (t : List ℕ) where
         ∙ ap allZero
         (sym (drop-drop (length t) 16 (recordOf n v m t))
         ∙ ap (drop (length t)) body
-        ∙ drop-at t (replicate (2096 - length t) 0) (length t) refl)
-        ∙ allZero-zeros (2096 - length t)
+        ∙ drop-at t (replicate (textMost - length t) 0) (length t) refl)
+        ∙ allZero-zeros (textMost - length t)
 
     spare : byte (recordOf n v m t) 7 ≡ 0
     unfolding recordOf lead
@@ -89,7 +88,7 @@ module _ (n v m : ℕ) (t : List ℕ) where
     unfolding recordOf lead allZero
     spares = refl
 
-    pub sound-record : (n ≡ 0 → ⊥) → n < 4294967296 → 1 ≤ v → v < 65536 → m ≤ 2 → 16 ≤ length t → sound (recordOf n v m t) ≡ true
+    pub sound-record : (n ≡ 0 → ⊥) → n < 4294967296 → 1 ≤ v → v ≤ greatestRevision → m ≤ 2 → 16 ≤ length t → sound (recordOf n v m t) ≡ true
     sound-record z hn hv kv hm ht =
         let r : List ℕ = recordOf n v m t in
         sound-taken r (λ q. z (sym (num-record hn) ∙ q))

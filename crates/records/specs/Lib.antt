@@ -1,3 +1,2 @@
 -- One record of the store.
 pub mod Record
-pub mod Text

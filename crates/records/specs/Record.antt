@@ -1,5 +1,6 @@
--- 01, the store: one record of 2,112 bytes, field by field. Nothing else knows where a field stands: what is above goes by
--- `num`, `rev`, `mark`, `len`, `leadOf`, `stored`, `sound`, `lead`, `recordOf` and the laws about them.
+-- 01, the store: one record, field by field. Nothing else knows where a field stands: what is above goes by `num`, `rev`, `mark`, `len`,
+-- `leadOf`, `stored`, `sound`, `lead`, `recordOf` and the laws about them. The record's size, the text's and the greatest revision have their
+-- names here, and no other file has the numbers.
 -- Assumes nothing.
 use mathlib.Core.Bool.{Bool, true, cond, _&&_}
 use mathlib.Core.List.{List, [], _∷_, _++_}
@@ -9,13 +10,27 @@ use lib.ListN.{length, take, drop, replicate}
 use Rattle.block.specs.Tab.{byte}
 use Rattle.block.specs.LittleEndian.{le16, le32}
 
+-- ---- sizes
+
+-- records of 2,112 bytes
+abbrev pub recordSize : ℕ
+recordSize = 2112
+
+-- a text of at most 2,096 bytes: what the lead leaves
+abbrev pub textMost : ℕ
+textMost = 2096
+
+-- a revision of at most 65,535
+abbrev pub greatestRevision : ℕ
+greatestRevision = 65535
+
 -- ---- the fields
 
 -- bytes 0-3: sheet number; 0 means the slot is free
 unfoldable pub num : List ℕ → ℕ
 num r = le32 r 0
 
--- bytes 4-5: revision, 1 to 65,535
+-- bytes 4-5: revision, 1 to the greatest
 unfoldable pub rev : List ℕ → ℕ
 rev r = le16 r 4
 
@@ -47,7 +62,7 @@ soundUsed r =
     ltb 0 (rev r)
     && (leb (mark r) 2
     && (eqb (byte r 7) 0
-    && (leb 16 (len r) && (leb (len r) 2096 && (allZero (take 6 (drop 10 r)) && allZero (drop (16 + len r) r))))))
+    && (leb 16 (len r) && (leb (len r) textMost && (allZero (take 6 (drop 10 r)) && allZero (drop (16 + len r) r))))))
 
 -- a free slot is sound if all its bytes are 0
 unfoldable pub sound : List ℕ → Bool
@@ -72,4 +87,4 @@ lead n v m l =
 
 -- the lead, the text as it is to be stored, and zeros after it
 unfoldable pub recordOf : ℕ → ℕ → ℕ → List ℕ → List ℕ
-recordOf n v m t = lead n v m (length t) ++ (t ++ replicate (2096 - length t) 0)
+recordOf n v m t = lead n v m (length t) ++ (t ++ replicate (textMost - length t) 0)

@@ -1,18 +1,20 @@
 // The fields of a record, and whether it is sound.
 ghost use mathlib.Core.Path.{_≡_};
+ghost use Prim.Native.Nat.{_≤_};
 ghost use lib.ListN.{length};
-ghost use Rattle.records.specs.Record.{num, rev, mark, len, allZero, soundUsed, sound};
+ghost use Rattle.records.specs.Record.{recordSize, num, rev, mark, len, allZero, soundUsed, sound};
+use super::TEXT_MOST;
 
 // The sheet number; 0 means the slot is free.
 pub fn number(r: &[u8]) -> u32
-    requires { ⌜ length (now r) ≡ 2112 ⌝ }
+    requires { ⌜ 16 ≤ length (now r) ⌝ }
     ensures { λ x. ⌜ x ≡ num (now (r .entry)) ⌝ }
 {
     r[0] as u32 + 256 * (r[1] as u32 + 256 * (r[2] as u32 + 256 * (r[3] as u32)))
 }
 
 pub fn revision(r: &[u8]) -> u32
-    requires { ⌜ length (now r) ≡ 2112 ⌝ }
+    requires { ⌜ 16 ≤ length (now r) ⌝ }
     ensures { λ x. ⌜ x ≡ rev (now (r .entry)) ⌝ }
 {
     r[4] as u32 + 256 * (r[5] as u32)
@@ -20,14 +22,14 @@ pub fn revision(r: &[u8]) -> u32
 
 // 0 clear, 1 old key, 2 new key; in an unsound record anything.
 pub fn mark(r: &[u8]) -> u8
-    requires { ⌜ length (now r) ≡ 2112 ⌝ }
+    requires { ⌜ 16 ≤ length (now r) ⌝ }
     ensures { λ x. ⌜ x ≡ mark (now (r .entry)) ⌝ }
 {
     r[6]
 }
 
 pub fn text_length(r: &[u8]) -> usize
-    requires { ⌜ length (now r) ≡ 2112 ⌝ }
+    requires { ⌜ 16 ≤ length (now r) ⌝ }
     ensures { λ x. ⌜ x ≡ len (now (r .entry)) ⌝ }
 {
     r[8] as usize + 256 * (r[9] as usize)
@@ -35,7 +37,7 @@ pub fn text_length(r: &[u8]) -> usize
 
 // 01: a free slot is all zeros, and in a used one every field is as tabled.
 pub fn is_sound(r: &[u8]) -> bool
-    requires { ⌜ length (now r) ≡ 2112 ⌝ }
+    requires { ⌜ length (now r) ≡ recordSize ⌝ }
     ensures { λ b. ⌜ b ≡ sound (now (r .entry)) ⌝ }
 {
     if number(r) == 0 {
@@ -45,7 +47,7 @@ pub fn is_sound(r: &[u8]) -> bool
 }
 
 fn is_sound_used(r: &[u8]) -> bool
-    requires { ⌜ length (now r) ≡ 2112 ⌝ }
+    requires { ⌜ length (now r) ≡ recordSize ⌝ }
     ensures { λ b. ⌜ b ≡ soundUsed (now (r .entry)) ⌝ }
 {
     if revision(r) == 0 {
@@ -61,7 +63,7 @@ fn is_sound_used(r: &[u8]) -> bool
     if l < 16 {
         return false;
     }
-    if l > 2096 {
+    if l > TEXT_MOST {
         return false;
     }
     if !zeros(&r[10..16]) {

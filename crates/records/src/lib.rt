@@ -1,18 +1,25 @@
-// One record of the store (01, the store): its fields, whether it is sound, its text in clear, and a record written whole.
+// One record of the store (01, the store): its fields, whether it is sound, and a record written whole.
 //
-// Contracts cite `specs/`: `Record` is the one place that knows where a field stands. Nothing here refuses: the calls are rooms above.
+// Contracts cite `specs/Record.antt`, the one place that knows where a field stands. The fields stand in the first 16 bytes, the lead, so that they
+// can be read of a lead alone. Nothing here knows a key: the text that a record holds is a room above.
 // The fields of a record, and whether it is sound.
 mod fields;
-// The text of a record.
-mod text;
 // A record written whole.
-mod write;
+mod writing;
 
 pub use fields::is_sound;
 pub use fields::mark;
 pub use fields::number;
 pub use fields::revision;
 pub use fields::text_length;
-pub use text::put_sheet;
-pub use text::take_text;
-pub use write::clear;
+pub use writing::clear;
+pub use writing::write;
+
+// 01: records of 2,112 bytes.
+pub const RECORD_SIZE: usize = 2112;
+
+// 01: a text of at most 2,096 bytes.
+pub const TEXT_MOST: usize = 2096;
+
+// 01: a revision of at most 65,535.
+pub const GREATEST_REVISION: u32 = 65535;

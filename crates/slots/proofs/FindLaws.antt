@@ -1,6 +1,6 @@
 -- Laws of looking for a slot and of counting slots.
 -- Assumes nothing.
-use mathlib.Core.Path.{_≡_, refl, sym, ap, _∙_, subst}
+use mathlib.Core.Path.{_≡_, refl, sym, ap, ap₂, _∙_, subst}
 use mathlib.Core.Logic.{⊎-elim}
 use mathlib.Core.Bool.{Bool, true, false, cond, not}
 use mathlib.Core.List.{List}
@@ -8,10 +8,10 @@ use Prim.Native.Nat.{ℕ, zero, suc, _+_, _-_, _≤_, _<_}
 use native.Mathlib.Nat.{eq-or-lt-of-le}
 use native.Mathlib.Numerals.{add-one}
 use native.Mathlib.Omega.{arith}
-use borrow.Author.Tests.{eqb-true, eqb-false}
+use borrow.Author.Tests.{eqb-true, eqb-false, eq-eqb, ne-eqb}
 use lib.Dec.{T, eqb}
 use Rattle.records.specs.Record.{num}
-use Rattle.slots.specs.Slots.{slots, slot, scan, lowest, tally, find}
+use Rattle.slots.specs.Slots.{scan, lowest, tally, findBy}
 
 -- ---- the first that passes a test
 
@@ -92,6 +92,13 @@ module _ (p : ℕ → Bool) where
       let b : k < m → ⊥ = λ q. clash (p k) e (lowest-below n k q) in
       omega (arith, a, b)
 
+-- two tests that agree find the same
+pub scan-same : (p q : ℕ → Bool) (i n : ℕ) → ((j : ℕ) → i ≤ j → j < i + n → p j ≡ q j) → scan p i n ≡ scan q i n
+unfolding scan
+scan-same p q i zero h = refl
+scan-same p q i (suc n) h =
+    ap₂ (λ (t : Bool) (m : ℕ). cond t i m) (h i (omega arith) (omega arith)) (scan-same p q (suc i) n (λ j a b. h j (omega arith) (omega arith)))
+
 -- ---- counts
 
 of-one : (b : Bool) → cond b 1 0 ≤ 1
@@ -113,25 +120,51 @@ module _ (p : ℕ → Bool) where
   tally-not zero = refl
   tally-not (suc n) = omega (arith, tally-not n, of-both (p n))
 
--- ---- slots
+  -- a loop that counts: those below k, and one turn more
+  pub tally-start : 0 ≡ tally p 0
+  unfolding tally
+  tally-start = refl
 
--- whether slot k has sheet number n
-abbrev pub hasNum : List ℕ → ℕ → ℕ → Bool
-hasNum s n k = eqb (num (slot s k)) n
+  pub tally-skip : (k : ℕ) → p k ≡ false → tally p k ≡ tally p (k + 1)
+  unfolding tally
+  tally-skip k e =
+      let z : tally p k ≡ tally p k + 0 = omega arith in
+      z ∙ ap (λ (t : Bool). tally p k + cond t 1 0) (sym e) ∙ ap (tally p) (sym (add-one k))
 
-module _ (s : List ℕ) (n : ℕ) where
-  pub find-start : (c : ℕ) → c ≡ slots s → find s n ≡ scan (hasNum s n) 0 (c - 0)
-  unfolding find
-  find-start c e = ap (lowest (hasNum s n)) (sym e) ∙ sym (scan-start (hasNum s n) c)
+  pub tally-more : (k : ℕ) → p k ≡ true → tally p k + 1 ≡ tally p (k + 1)
+  unfolding tally
+  tally-more k e = ap (λ (t : Bool). tally p k + cond t 1 0) (sym e) ∙ ap (tally p) (sym (add-one k))
 
-  pub find-le : find s n ≤ slots s
-  unfolding find
-  find-le = lowest-le (hasNum s n) (slots s)
+-- ---- places by their sheet number
 
-  pub find-has : find s n < slots s → num (slot s (find s n)) ≡ n
-  unfolding find
-  find-has h = eqb-true (num (slot s (find s n))) n (lowest-has (hasNum s n) (slots s) h)
+-- whether place k has sheet number n
+abbrev pub hasNum : (ℕ → List ℕ) → ℕ → ℕ → Bool
+hasNum r n k = eqb (num (r k)) n
 
-  pub find-lowest : (j : ℕ) → j < find s n → num (slot s j) ≡ n → ⊥
-  unfolding find
-  find-lowest j h = eqb-false (num (slot s j)) n (lowest-below (hasNum s n) (slots s) j h)
+module _ (c : ℕ) (r : ℕ → List ℕ) (n : ℕ) where
+  pub find-start : findBy c r n ≡ scan (hasNum r n) 0 (c - 0)
+  unfolding findBy
+  find-start = sym (scan-start (hasNum r n) c)
+
+  pub find-le : findBy c r n ≤ c
+  unfolding findBy
+  find-le = lowest-le (hasNum r n) c
+
+  pub find-has : findBy c r n < c → num (r (findBy c r n)) ≡ n
+  unfolding findBy
+  find-has h = eqb-true (num (r (findBy c r n))) n (lowest-has (hasNum r n) c h)
+
+  pub find-lowest : (j : ℕ) → j < findBy c r n → num (r j) ≡ n → ⊥
+  unfolding findBy
+  find-lowest j h = eqb-false (num (r j)) n (lowest-below (hasNum r n) c j h)
+
+  -- the place found, if it has the number and none below does
+  pub find-is : (k : ℕ) → k < c → num (r k) ≡ n → ((j : ℕ) → j < k → num (r j) ≡ n → ⊥) → findBy c r n ≡ k
+  unfolding findBy
+  find-is k h e f = lowest-is (hasNum r n) c k h (eq-eqb (num (r k)) n e) (λ j l. ne-eqb (num (r j)) n (f j l))
+
+-- two rows of places with the same numbers
+pub find-same : (c d : ℕ) (r q : ℕ → List ℕ) (n : ℕ) → c ≡ d → ((j : ℕ) → j < d → eqb (num (r j)) n ≡ eqb (num (q j)) n)
+    → findBy c r n ≡ findBy d q n
+unfolding findBy
+find-same c d r q n e h = ap (lowest (hasNum r n)) e ∙ scan-same (hasNum r n) (hasNum q n) 0 d (λ j a b. h j (omega arith))

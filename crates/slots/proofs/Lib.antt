@@ -1,3 +1,4 @@
 -- The laws that this crate's proofs and those of the layers above cite.
 pub mod FindLaws
 pub mod SlotLaws
+pub mod PutLaws

@@ -4,6 +4,7 @@ use mathlib.Core.Path.{ap, _∙_}
 use mathlib.Core.List.{List}
 use Prim.Native.Nat.{ℕ, _+_, _-_, _*_}
 use lib.ListN.{length, take, drop}
+use Rattle.records.specs.Record.{recordSize}
 use Rattle.slots.specs.Slots.{put}
 use Rattle.slots.proofs.SlotLaws.{slot-part, length-slot, slot-changed, emptying}
 use borrow.Author.Needs.{needs}
@@ -38,7 +39,7 @@ returns c =
     let s : List ℕ = p .args .s .now in
     let k : ℕ = p .args .k in
     slot-changed s k (cl .clear .last .0)
-    ∙ ap (put s k) (cl .clear .ensures ∙ emptying (take (k * 2112 + 2112 - k * 2112) (drop (k * 2112) s)) (ap length (slot-part s k) ∙ length-slot s k (p .pre)))
+    ∙ ap (put s k) (cl .clear .ensures ∙ emptying (take (k * recordSize + recordSize - k * recordSize) (drop (k * recordSize) s)) (ap length (slot-part s k) ∙ length-slot s k (p .pre)))
 
 pub empty-spec : {M : Type 1} → statement M
 empty-spec =

@@ -1,6 +1,6 @@
 -- `slots::find` meets its contract: what is left to look at decides.
 -- Assumes nothing.
-use mathlib.Core.Path.{_≡_, sym, _∙_}
+use mathlib.Core.Path.{_≡_, sym, ap, _∙_}
 use mathlib.Core.List.{List}
 use Prim.Native.Nat.{ℕ, _-_, _≤_}
 use native.Mathlib.Omega.{arith}
@@ -12,7 +12,7 @@ use Rattle.slots.proofs.find.Statement.{statement}
 use Rattle.slots.proofs.find.Tie as tie
 
 abbrev Inv-loop : tie.InvT-loop
-Inv-loop s n c k₀ k = (c ≡ slots s) × (k ≤ c) × (find s n ≡ scan (hasNum s n) k (c - k))
+Inv-loop s n c k₀ k = (c ≡ slots s) × (k ≤ c) × (find s n ≡ scan (hasNum (slot s) n) k (c - k))
 
 abbrev μ-loop : tie.MeasureT-loop
 μ-loop s n c k₀ k = c - k
@@ -23,7 +23,7 @@ count-requires c κs = tt
 loop-holds : tie.Need-loop-holds Inv-loop μ-loop
 loop-holds c =
     let a = c .before .before .args in
-    (c .count .ensures, omega arith, find-start (a .s .now) (a .n) (c .count .result) (c .count .ensures))
+    (c .count .ensures, omega arith, find-start (slots (a .s .now)) (slot (a .s .now)) (a .n) ∙ ap (λ (m : ℕ). scan (hasNum (slot (a .s .now)) (a .n)) 0 (m - 0)) (sym (c .count .ensures)))
 
 number-at-requires : tie.Need-number-at-requires Inv-loop μ-loop
 number-at-requires c κs = omega arith
@@ -35,7 +35,7 @@ returns c =
     let s : List ℕ = a .s .now in
     sym
     (k .loop .inv .2
-    ∙ scan-found (hasNum s (a .n)) (k .loop .k) (k .before .count .result) (omega arith)
+    ∙ scan-found (hasNum (slot s) (a .n)) (k .loop .k) (k .before .count .result) (omega arith)
     (eq-eqb (num (slot s (k .loop .k))) (a .n) (sym (c .before .number-at .ensures) ∙ c .if1 .taken)))
 
 add-k : tie.Need-add-k Inv-loop μ-loop
@@ -53,7 +53,7 @@ loop-again c =
       k .loop .inv .0,
       omega arith,
       k .loop .inv .2
-          ∙ scan-step (hasNum s (a .n)) (k .loop .k) (k .before .count .result) (omega arith)
+          ∙ scan-step (hasNum (slot s) (a .n)) (k .loop .k) (k .before .count .result) (omega arith)
           (ne-eqb x (a .n) (λ (e : x ≡ a .n). c .if1 .left (c .before .number-at .ensures ∙ e))),
     )
 
@@ -62,7 +62,7 @@ returns-2 c =
     let k = c .before in
     let a = k .before .before .before .args in
     let e : k .loop .k ≡ k .before .count .result = omega arith in
-    sym (k .loop .inv .2 ∙ scan-end (hasNum (a .s .now) (a .n)) (k .loop .k) (k .before .count .result) (omega arith) ∙ e)
+    sym (k .loop .inv .2 ∙ scan-end (hasNum (slot (a .s .now)) (a .n)) (k .loop .k) (k .before .count .result) (omega arith) ∙ e)
 
 pub find-spec : {M : Type 1} → statement M
 find-spec =

@@ -1,36 +1,20 @@
--- `slots::number_at` meets its contract: the part that is lent is the slot.
+-- `slots::number_at` meets its contract: the number of the slot's record.
 -- Assumes nothing.
 use mathlib.Core.Path.{ap, _∙_}
+use native.Mathlib.Omega.{arith}
 use borrow.Author.Needs.{needs}
 use Rattle.records.specs.Record.{num}
-use Rattle.slots.proofs.SlotLaws.{slot-part}
 use Rattle.slots.proofs.number_at.Statement.{statement}
 use Rattle.slots.proofs.number_at.Tie as tie
 
-mul-at : tie.Need-mul-at
-mul-at c = search needs
-
-add-end : tie.Need-add-end
-add-end c = search needs
-
-sub-number : tie.Need-sub-number
-sub-number c = search needs
-
-part-number-start : tie.Need-part-number-start
-part-number-start c = search needs
-
-part-number-end : tie.Need-part-number-end
-part-number-end c = search needs
+record-at-requires : tie.Need-record-at-requires
+record-at-requires c κs = search needs
 
 number-requires : tie.Need-number-requires
-number-requires c κs = search needs
+number-requires c κs = omega (arith, c .record-at .ensures)
 
 returns : tie.Need-returns
-returns c =
-    let a = c .before .before .before .args in
-    c .number .ensures ∙ ap num (slot-part (a .s .now) (a .k))
+returns c = c .number .ensures ∙ ap num (c .before .record-at .ensures .0)
 
 pub number-at-spec : {M : Type 1} → statement M
-number-at-spec =
-    tie.close
-    (tie.spec mul-at add-end sub-number part-number-start part-number-end number-requires returns)
+number-at-spec = tie.close (tie.spec record-at-requires number-requires returns)

@@ -1,0 +1,78 @@
+-- 01, numbers returned in place of a result: the number of each refusal, and that no two refusals share one.
+-- Assumes nothing.
+use mathlib.Core.Path.{_≡_, refl, sym, ap, _∙_}
+use mathlib.Core.List.{List, [], _∷_}
+use Prim.Native.Nat.{ℕ, zero, suc}
+use lib.ListN.{getD}
+use Rattle.numbers.specs.declared.Refusal.{Refusal}
+use Rattle.numbers.specs.declared.Refusal.the-variants.{KeyLength, MessageLength, DataLength, StoreLength, SheetZero, TextLength, NoSheet}
+use Rattle.numbers.specs.declared.Refusal.the-variants.{OtherRevision, LastRevision, NoFreeSlot, SheetPresent, SlotUnsound, BufferLength, LengthChanged}
+use Rattle.numbers.specs.declared.Answer.{Answer}
+use Rattle.numbers.specs.declared.Answer.the-variants.{Done, Refused}
+
+-- 01's table
+abbrev pub paper : Refusal → ℕ
+paper KeyLength = 1
+paper MessageLength = 2
+paper DataLength = 3
+paper StoreLength = 4
+paper SheetZero = 5
+paper TextLength = 6
+paper NoSheet = 7
+paper OtherRevision = 8
+paper LastRevision = 9
+paper NoFreeSlot = 10
+paper SheetPresent = 11
+paper SlotUnsound = 12
+paper BufferLength = 13
+paper LengthChanged = 14
+
+-- 0 if the call was not refused
+abbrev pub answerPaper : Answer → ℕ
+answerPaper Done = 0
+answerPaper (Refused x) = paper x
+
+-- every refusal, by its number less 1
+refusals : List Refusal
+refusals =
+    KeyLength
+    ∷ MessageLength
+    ∷ DataLength
+    ∷ StoreLength
+    ∷ SheetZero
+    ∷ TextLength
+    ∷ NoSheet
+    ∷ OtherRevision
+    ∷ LastRevision
+    ∷ NoFreeSlot
+    ∷ SheetPresent
+    ∷ SlotUnsound
+    ∷ BufferLength
+    ∷ LengthChanged
+    ∷ []
+
+abbrev answerOf : ℕ → Answer
+answerOf zero = Done
+answerOf (suc n) = Refused (getD refusals n LengthChanged)
+
+back : (a : Answer) → answerOf (answerPaper a) ≡ a
+unfolding refusals
+back Done = refl
+back (Refused KeyLength) = refl
+back (Refused MessageLength) = refl
+back (Refused DataLength) = refl
+back (Refused StoreLength) = refl
+back (Refused SheetZero) = refl
+back (Refused TextLength) = refl
+back (Refused NoSheet) = refl
+back (Refused OtherRevision) = refl
+back (Refused LastRevision) = refl
+back (Refused NoFreeSlot) = refl
+back (Refused SheetPresent) = refl
+back (Refused SlotUnsound) = refl
+back (Refused BufferLength) = refl
+back (Refused LengthChanged) = refl
+
+-- two answers with one number are equal
+pub paper-apart : (a b : Answer) → answerPaper a ≡ answerPaper b → a ≡ b
+paper-apart a b e = sym (back a) ∙ ap answerOf e ∙ back b
