@@ -9,7 +9,6 @@ ghost use Rattle.records.specs.Record.{len};
 ghost use Rattle.records.specs.Text.{textOf, sheet};
 use super::fields::mark;
 use super::fields::text_length;
-use super::write::copy;
 use super::write::write;
 
 // The record r becomes sheet n at revision v with the text, under the new key w with the new lead.
@@ -42,7 +41,7 @@ pub fn take_text(r: &[u8], o: &[u8], w: &[u8], out: &mut [u8])
 {
     let l = text_length(r);
     let end = 16 + l;
-    copy(out, 0, &r[16..end]);
+    block::copy(out, 0, &r[16..end]);
     let m = mark(r);
     let h = block::load(r, 0);
     if m == 0 {
