@@ -45,6 +45,6 @@ fn call(back: bool, key: &[u8], block: &mut [u8]) -> Answer
     }
     let w = key_setup(key);
     let b = block::load(block, 0);
-    block::store(block, 0, crypt(back, w, rounds_of(n), b));
+    block::put(block, 0, crypt(back, w, rounds_of(n), b));
     Answer::Done
 }

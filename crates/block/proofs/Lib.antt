@@ -1,4 +1,5 @@
 -- The laws that this crate's proofs and those of the layers above cite.
+pub mod BoolLaws
 pub mod TabLaws
 pub mod BytesLaws
 pub mod Table

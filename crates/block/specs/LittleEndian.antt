@@ -1,4 +1,4 @@
--- 01: numbers are little-endian. The number that stands in s from `at` on, in two bytes and in four; and byte i of a number.
+-- 01: numbers are little-endian. The number that stands in s from `at` on, in two bytes and in four.
 -- Assumes nothing.
 use mathlib.Core.List.{List}
 use Prim.Native.Nat.{ℕ, _+_, _*_}

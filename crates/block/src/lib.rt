@@ -1,11 +1,12 @@
-// Bytes in blocks of 16.
+// Bytes in blocks of 16, and slices of bytes.
 //
-// A block goes by value, as [u8; 16]. Contracts of the layers above cite `specs/`: `_⊕_`, `blockAt`, `withBlock`, `onBlocks`, and
-// `tab` for a list given by its places. The laws about them are in `proofs/`: `XorLaws`, `TabLaws`, `BlockLaws`, and `Table`
-// for the rule of a table.
+// A block goes by value, as [u8; 16]. Contracts of the layers above cite `specs/`: `_⊕_` (Xor), `double` and `pad` (Double), `blockAt`,
+// `withBlock` and `onBlocks` (Blocks), `tab` for a list given by its places (Tab), rows of any width (Rows), little-endian numbers
+// (LittleEndian), `Bytes` and `Block` (Bytes). `proofs/Lib.antt` lists the laws about them.
 ghost use mathlib.Core.Path.{_≡_};
+ghost use mathlib.Core.List.{_++_};
 ghost use Prim.Native.Nat.{_+_, _≤_, _<_};
-ghost use lib.ListN.{length, drop};
+ghost use lib.ListN.{length, take, drop};
 ghost use Rattle.block.specs.Xor.{_⊕_};
 ghost use Rattle.block.specs.Blocks.{blockAt, withBlock};
 ghost use Rattle.block.specs.Double.{carried, double, pad};
@@ -38,13 +39,25 @@ pub fn load(s: &[u8], at: usize) -> [u8; 16]
 }
 
 // Puts b into s from `at` on. Every other byte of s is kept.
-pub fn store(s: &mut [u8], at: usize, b: [u8; 16])
+pub fn put(s: &mut [u8], at: usize, b: [u8; 16])
     requires { ⌜ at + 16 ≤ length (now s) ⌝ }
     ensures { λ _. ⌜ now (s .exit) ≡ withBlock (now (s .entry)) at b ⌝ }
 {
     let mut i = 0;
     while i < 16 {
         s[at + i] = b[i];
+        i += 1;
+    }
+}
+
+// Puts the text into s from `at` on. Every other byte of s is kept.
+pub fn copy(s: &mut [u8], at: usize, text: &[u8])
+    requires { ⌜ at + length (now text) ≤ length (now s) ⌝ }
+    ensures { λ _. ⌜ now (s .exit) ≡ take at (now (s .entry)) ++ (now (text .entry) ++ drop (at + length (now (text .entry))) (now (s .entry))) ⌝ }
+{
+    let mut i = 0;
+    while i < text.len() {
+        s[at + i] = text[i];
         i += 1;
     }
 }

@@ -48,7 +48,7 @@ fn singly(back: bool, w: [[u8; 16]; 15], nr: usize, s: &mut [u8], from: usize)
     let mut at = from;
     while s.len() - at >= 16 {
         let x = block::load(s, at);
-        block::store(s, at, crypt(back, w, nr, x));
+        block::put(s, at, crypt(back, w, nr, x));
         at += 16;
     }
 }

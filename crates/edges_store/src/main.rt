@@ -101,7 +101,7 @@ fn lend(
 fn run(l: Line, old: &[u8], new: &[u8], store: &mut [u8], before: &mut [u8])
     requires { ⌜ length (now before) ≡ length (now store) ⌝ }
 {
-    copy(before, store);
+    block::copy(before, 0, store);
     on_store(l, old, new, store, before);
     print(b"\n");
 }
@@ -158,18 +158,7 @@ fn seal(key: &[u8], s: &mut [u8]) {
     if s.len() < 16 {
         return;
     }
-    let mut lead = [0u8; 16];
-    copy(&mut lead, &s[0..16]);
+    let lead = block::load(s, 0);
     let n = s.len();
     lagunedo::lagunedo_eme2_encipher(key, &lead, &mut s[16..n]);
-}
-
-fn copy(to: &mut [u8], s: &[u8])
-    requires { ⌜ length (now to) ≡ length (now s) ⌝ }
-{
-    let mut i = 0;
-    while i < s.len() {
-        to[i] = s[i];
-        i += 1;
-    }
 }

@@ -1,7 +1,7 @@
 -- Each way out of the calls, from the tests that lead there.
 -- Assumes nothing.
 use mathlib.Core.Path.{_≡_, refl, sym, ap, ap₂, _∙_}
-use mathlib.Core.Bool.{Bool, true, false, cond, not, _||_}
+use mathlib.Core.Bool.{Bool, true, false, cond, not, _||_, or-true}
 use mathlib.Core.List.{List}
 use Prim.Native.Nat.{ℕ, _-_, _≤_, _<_}
 use native.Mathlib.Omega.{arith}
@@ -12,10 +12,6 @@ use Rattle.schedule.specs.Size.{keySize}
 use Rattle.eme2.specs.declared.Answer.the-variants.{Done, KeyLength, MessageLength, DataLength}
 use Rattle.eme2.specs.Transform.{keyTaken, number, eme2, afterwards}
 use Rattle.eme2.specs.Calls.{Called}
-
-or-true : (a : Bool) → a || true ≡ true
-or-true true = refl
-or-true false = refl
 
 module _ (back : Bool) (k ad m : List ℕ) where
   -- the message that goes with a number

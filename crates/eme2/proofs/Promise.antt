@@ -11,6 +11,7 @@ use lib.Dec.{eqb, ltb}
 use lib.ListN.{length, drop, length-drop}
 use lib.Seq.{length-take-le}
 use Rattle.block.specs.Bytes.{Bytes, Block}
+use Rattle.block.proofs.BoolLaws.{neither}
 use Rattle.block.proofs.BytesLaws.{bytes-take, bytes-drop}
 use Rattle.schedule.specs.Size.{keySize}
 use Rattle.schedule.proofs.Laws.{key-sizes}
@@ -29,17 +30,13 @@ through true false c e = (refl, refl)
 through true true c e = let z : ⊥ = omega arith in absurd z
 through false b c e = let z : ⊥ = omega arith in absurd z
 
-neither : (a b : Bool) → a || b ≡ false → a ≡ false
-neither false b e = refl
-neither true b e = e
-
 module _ (k ad m : List ℕ) (bk : Bytes k) (bad : Bytes ad) (bm : Bytes m) (e : number k ad m ≡ 0) where
   tests : (keyTaken k ≡ true) × ((ltb (length m) 16 || ltb 65536 (length m)) ≡ false)
   unfolding number
   tests = through (keyTaken k) (ltb (length m) 16 || ltb 65536 (length m)) (ltb 1024 (length ad)) e
 
   long : 16 ≤ length m
-  long = ltb-false (length m) 16 (neither (ltb (length m) 16) (ltb 65536 (length m)) (tests .1))
+  long = ltb-false (length m) 16 (neither (ltb (length m) 16) (ltb 65536 (length m)) (tests .1) .0)
 
   key-long : 48 ≤ length k
   key-long = omega (arith, key-sizes (length k - 32) (tests .0))

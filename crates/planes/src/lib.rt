@@ -16,7 +16,7 @@ ghost use Rattle.rounds.specs.Steps.{shiftRows, invShiftRows, columnsTimes, mix
 ghost use Rattle.planes.specs.Lanes.{lane, Lanewise};
 ghost use Rattle.planes.specs.Planes.{Plane, below, picked};
 use block::load;
-use block::store;
+use block::put;
 use block::xor;
 use rounds::each_times_x;
 
@@ -45,7 +45,7 @@ pub fn mix(s: &[u8], d: &mut [u8])
 {
     let mut p = 0;
     while p < 16 {
-        store(d, 16 * p, mixed(s, p));
+        put(d, 16 * p, mixed(s, p));
         p += 1;
     }
 }
@@ -69,7 +69,7 @@ pub fn add(s: &mut [u8], k: [u8; 16])
     while p < 16 {
         let x = load(s, 16 * p);
         let y = [k[p]; 16];
-        store(s, 16 * p, xor(x, y));
+        put(s, 16 * p, xor(x, y));
         p += 1;
     }
 }
@@ -81,7 +81,7 @@ pub fn spread(s: &[u8], at: usize, n: usize, d: &mut [u8])
 {
     let mut p = 0;
     while p < 16 {
-        store(d, 16 * p, strided(s, at + p, n));
+        put(d, 16 * p, strided(s, at + p, n));
         p += 1;
     }
 }
@@ -93,7 +93,7 @@ pub fn gather(s: &[u8], d: &mut [u8], at: usize, n: usize)
 {
     let mut l = 0;
     while l < n {
-        store(d, at + 16 * l, strided(s, l, 16));
+        put(d, at + 16 * l, strided(s, l, 16));
         l += 1;
     }
 }
@@ -106,7 +106,7 @@ fn pick(k: usize, s: &[u8], d: &mut [u8])
 {
     let mut p = 0;
     while p < 16 {
-        store(d, 16 * p, load(s, 16 * ((p + k * (p % 4)) % 16)));
+        put(d, 16 * p, load(s, 16 * ((p + k * (p % 4)) % 16)));
         p += 1;
     }
 }
@@ -118,7 +118,7 @@ fn prepare(s: &[u8], d: &mut [u8])
 {
     let mut p = 0;
     while p < 16 {
-        store(d, 16 * p, prepared(s, p));
+        put(d, 16 * p, prepared(s, p));
         p += 1;
     }
 }

@@ -1,7 +1,7 @@
 -- Each way out of `lagunedo_probe_wide`, from the tests that lead there.
 -- Assumes nothing.
 use mathlib.Core.Path.{_≡_, refl, sym, ap, ap₂, _∙_}
-use mathlib.Core.Bool.{Bool, true, false, cond, not, _&&_}
+use mathlib.Core.Bool.{Bool, true, false, cond, not, _&&_, and-false}
 use mathlib.Core.List.{List}
 use Prim.Native.Nat.{ℕ, _≤_, _<_}
 use native.Mathlib.Nat.{le-of-eq}
@@ -17,10 +17,6 @@ use Rattle.aes.specs.Aes.{aes}
 use Rattle.aes.specs.Promise.{crypted-aes}
 use Rattle.mode.specs.Wide.{wide}
 use Rattle.probe.specs.Calls.{wideNumber, wideAfterwards, WideCalled}
-
-and-false : (a : Bool) → a && false ≡ false
-and-false true = refl
-and-false false = refl
 
 module _ (back : Bool) (k L T m : List ℕ) where
   with-number : (n : ℕ) → wideNumber k L T m ≡ n → wideAfterwards back k L T m ≡ cond (eqb n 0) (wide (aes back k) L T m) m

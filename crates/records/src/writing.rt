@@ -1,8 +1,8 @@
 // A record written whole: lead, text, and zeros after it.
 ghost use mathlib.Core.Path.{_≡_};
 ghost use mathlib.Core.List.{_++_};
-ghost use Prim.Native.Nat.{_+_, _-_, _≤_};
-ghost use lib.ListN.{length, take, drop, replicate};
+ghost use Prim.Native.Nat.{_-_, _≤_};
+ghost use lib.ListN.{length, take, replicate};
 ghost use Rattle.records.specs.Record.{recordSize, textMost, lead, recordOf};
 
 // The record of sheet n at revision v with mark m, holding the text as it stands.
@@ -11,8 +11,8 @@ pub fn write(r: &mut [u8], n: u32, v: u32, m: u8, text: &[u8])
     ensures { λ _. ⌜ now (r .exit) ≡ recordOf n v m (now (text .entry)) ⌝ }
 {
     let l = text.len();
-    block::store(r, 0, lead(n, v, m, l));
-    copy(r, 16, text);
+    block::put(r, 0, lead(n, v, m, l));
+    block::copy(r, 16, text);
     clear(r, 16 + l);
 }
 
@@ -37,18 +37,6 @@ fn lead(n: u32, v: u32, m: u8, l: usize) -> [u8; 16]
         0,
         0,
     ]
-}
-
-// Puts the text into s from `at` on.
-pub fn copy(s: &mut [u8], at: usize, text: &[u8])
-    requires { ⌜ at + length (now text) ≤ length (now s) ⌝ }
-    ensures { λ _. ⌜ now (s .exit) ≡ take at (now (s .entry)) ++ (now (text .entry) ++ drop (at + length (now (text .entry))) (now (s .entry))) ⌝ }
-{
-    let mut i = 0;
-    while i < text.len() {
-        s[at + i] = text[i];
-        i += 1;
-    }
 }
 
 // Makes every byte of s from `from` on 0.

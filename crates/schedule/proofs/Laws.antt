@@ -1,7 +1,7 @@
 -- Laws of the key schedule: its words, what it adds in one turn, and that the round keys are 15 blocks.
 -- Assumes nothing.
 use mathlib.Core.Path.{_≡_, refl, sym, ap, ap₂, _∙_, subst}
-use mathlib.Core.Bool.{Bool, true, false, cond, _&&_, _||_}
+use mathlib.Core.Bool.{Bool, true, false, cond, _&&_}
 use mathlib.Core.List.{List, [], _∷_, _++_}
 use Prim.Native.Nat.{ℕ, zero, suc, _+_, _-_, _*_, _/_, _%_, _≤_, _<_}
 use native.Mathlib.Nat.{le-div-iff-mul-le, div-lt-iff-lt-mul}
@@ -15,6 +15,7 @@ use Rattle.block.specs.Tab.{tab, byte}
 use Rattle.block.specs.Bytes.{Bytes, Block}
 use Rattle.block.specs.Blocks.{blockAt}
 use Rattle.block.specs.Xor.{_⊕_}
+use Rattle.block.proofs.BoolLaws.{either}
 use Rattle.block.proofs.BytesLaws.{drop-replicate, bytes-cons, bytes-zeros, bytes-append, bytes-take, bytes-drop}
 use Rattle.block.proofs.Table.{each}
 use Rattle.block.proofs.TabLaws.{getD-tab, tab-ext, tab-eta, bytes-tab}
@@ -26,10 +27,6 @@ use Rattle.schedule.specs.Size.{keySize, Nk, Nr}
 use Rattle.schedule.specs.KeyExpansion.{word, rcon, Rcon, rotWord, temp, nextWord, expanded, keyExpansion, roundKeys}
 
 -- ---- the sizes of a key: the one place that looks at them
-
-either : {P : Type 0} (a b : Bool) → (a ≡ true → P) → (b ≡ true → P) → a || b ≡ true → P
-either true b f g h = f refl
-either false b f g h = g h
 
 pub key-sizes : (n : ℕ) → keySize n ≡ true → (4 ≤ n / 4) × (n / 4 ≤ 8) × (4 * (n / 4) ≡ n)
 key-sizes n = either (eqb n 16) (eqb n 32) (λ e. omega (arith, eqb-true n 16 e)) (λ e. omega (arith, eqb-true n 32 e))

@@ -7,7 +7,6 @@ ghost use lib.ListN.{length, take, drop};
 ghost use Rattle.eme2.specs.Transform.{afterwards};
 ghost use Rattle.records.specs.Record.{recordSize, textMost, len};
 ghost use Rattle.sheets.specs.Text.{textOf, sheet};
-use block::copy;
 use records::mark;
 use records::text_length;
 use records::write;
@@ -42,7 +41,7 @@ pub fn take_text(r: &[u8], o: &[u8], w: &[u8], out: &mut [u8])
 {
     let l = text_length(r);
     let end = 16 + l;
-    copy(out, 0, &r[16..end]);
+    block::copy(out, 0, &r[16..end]);
     let m = mark(r);
     let h = block::load(r, 0);
     if m == 0 {

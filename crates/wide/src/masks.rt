@@ -42,11 +42,11 @@ fn one(
     let x = block::load(s, at);
     if at / 16 % 128 != 0 {
         let next = block::doubled(m);
-        block::store(s, at, xor(x, next));
+        block::put(s, at, xor(x, next));
         return next;
     }
     let mp = xor(x, m1);
     let mc = crypt(back, w, nr, mp);
-    block::store(s, at, xor(mc, m1));
+    block::put(s, at, xor(mc, m1));
     xor(mp, mc)
 }

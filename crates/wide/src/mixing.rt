@@ -22,7 +22,7 @@ pub fn mix(back: bool, w: [[u8; 16]; 15], nr: usize, t: [u8; 16], s: &mut [u8])
     let c1 = mc1(back, w, nr, mm, s);
     masks::blocks(back, w, nr, xor(mp, c1), s);
     short(mm, s);
-    block::store(s, 0, xor(total(c1, s), t));
+    block::put(s, 0, xor(total(c1, s), t));
 }
 
 // x xor the blocks of s after the first, in their order; a short last one is padded.

@@ -29,7 +29,7 @@ fn mask(s: &mut [u8], l: [u8; 16])
     let mut at = 0;
     while s.len() - at >= 16 {
         let x = block::load(s, at);
-        block::store(s, at, block::xor(x, m));
+        block::put(s, at, block::xor(x, m));
         let next = block::doubled(m);
         m = next;
         at += 16;

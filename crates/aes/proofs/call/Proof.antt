@@ -48,8 +48,8 @@ crypt-requires c κs =
     let a = e .before .before .before .before .args in
     omega (arith, c .rounds-of .ensures, key-sizes (length (a .key .now)) (sized e))
 
-store-requires : tie.Need-store-requires
-store-requires c κs = search needs
+put-requires : tie.Need-put-requires
+put-requires c κs = search needs
 
 same-length : tie.Need-same-length
 same-length c = search needs
@@ -65,8 +65,8 @@ returns-3 c =
     let a = e .before .before .before .before .args in
     let k : List ℕ = a .key .now in
     let b : List ℕ = a .block .now in
-    done (a .back) k b (sized e) (ks .before .if2 .left) (st .store .last .0)
-    (st .store .ensures
+    done (a .back) k b (sized e) (ks .before .if2 .left) (st .put .last .0)
+    (st .put .ensures
     ∙ over (a .back) k b (ks .before .if2 .left) (lo .load .result) (cr .crypt .result) (lo .load .ensures)
     (cr .crypt .ensures
     ∙ ap₂ (λ (w : List (List ℕ)) (n : ℕ). crypted (a .back) w n (lo .load .result)) (ks .key-setup .ensures) (ro .rounds-of .ensures)))
@@ -82,6 +82,6 @@ call-spec =
     load-requires
     rounds-of-requires
     crypt-requires
-    store-requires
+    put-requires
     same-length
     returns-3)

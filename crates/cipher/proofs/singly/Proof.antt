@@ -33,8 +33,8 @@ load-requires c κs = omega arith
 crypt-requires : tie.Need-crypt-requires Inv-loop μ-loop
 crypt-requires c κs = search needs
 
-store-requires : tie.Need-store-requires Inv-loop μ-loop
-store-requires c κs = omega arith
+put-requires : tie.Need-put-requires Inv-loop μ-loop
+put-requires c κs = omega arith
 
 add-at : tie.Need-add-at Inv-loop μ-loop
 add-at c = omega arith
@@ -51,10 +51,10 @@ loop-again c =
     let f : List ℕ → List ℕ = crypted (a .back) (a .w) (a .nr) in
     let at = k .loop .at in
     let y = cr .crypt .result in
-    let n : length (st .store .last .0) ≡ length (k .loop .s) = st .store .kept .0 in (
+    let n : length (st .put .last .0) ≡ length (k .loop .s) = st .put .kept .0 in (
       omega arith,
       n ∙ k .loop .inv .1,
-      ap (λ (r : List ℕ). take (at + 16) r ++ onBlocks (map f) (drop (at + 16) r)) (st .store .ensures)
+      ap (λ (r : List ℕ). take (at + 16) r ++ onBlocks (map f) (drop (at + 16) r)) (st .put .ensures)
           ∙ on-turn (map f) (map f) at (k .loop .s) y (omega arith) (search needs)
           (λ xs. ap (λ (z : List ℕ). z ∷ map f xs) (sym (cr .crypt .ensures ∙ ap f (cr .before .before .load .ensures))))
           ∙ k .loop .inv .2,
@@ -78,7 +78,7 @@ singly-spec =
     sub-loop
     load-requires
     crypt-requires
-    store-requires
+    put-requires
     add-at
     loop-less
     loop-again

@@ -33,14 +33,14 @@ load-requires c κs = omega arith
 array-read-y : tie.Need-array-read-y Inv-loop μ-loop
 array-read-y c = omega arith
 
-mul-store : tie.Need-mul-store Inv-loop μ-loop
-mul-store c = omega arith
+mul-put : tie.Need-mul-put Inv-loop μ-loop
+mul-put c = omega arith
 
 xor-requires : tie.Need-xor-requires Inv-loop μ-loop
 xor-requires c κs = tt
 
-store-requires : tie.Need-store-requires Inv-loop μ-loop
-store-requires c κs = omega arith
+put-requires : tie.Need-put-requires Inv-loop μ-loop
+put-requires c κs = omega arith
 
 add-p : tie.Need-add-p Inv-loop μ-loop
 add-p c = omega arith
@@ -57,7 +57,7 @@ loop-again c =
     let p = k .loop .p in (
       omega arith,
       k .loop .inv .1,
-      made-more (k .loop .inv .2) (omega arith) (y .result) (array-block (y .result) _ (y .ok) .size) (c .before .before .store .ensures)
+      made-more (k .loop .inv .2) (omega arith) (y .result) (array-block (y .result) _ (y .ok) .size) (c .before .before .put .ensures)
           (λ l h.
           ap (λ (r : List ℕ). byte r l) (y .ensures ∙ ap (λ (u : List ℕ). u ⊕ replicate 16 (byte key p)) (x .ensures))
           ∙ add-plane (k .loop .inv .2) (omega arith) key (k .loop .inv .1) l h),
@@ -80,9 +80,9 @@ add-spec =
     mul-load
     load-requires
     array-read-y
-    mul-store
+    mul-put
     xor-requires
-    store-requires
+    put-requires
     add-p
     loop-less
     loop-again

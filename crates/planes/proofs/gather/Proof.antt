@@ -21,17 +21,17 @@ loop-holds c =
     let a = c .before .before .args in
     (omega arith, refl, gather-none (a .s .now) (a .d .now) (a .at))
 
-mul-store : tie.Need-mul-store Inv-loop μ-loop
-mul-store c = omega arith
+mul-put : tie.Need-mul-put Inv-loop μ-loop
+mul-put c = omega arith
 
-add-store : tie.Need-add-store Inv-loop μ-loop
-add-store c = omega arith
+add-put : tie.Need-add-put Inv-loop μ-loop
+add-put c = omega arith
 
 strided-requires : tie.Need-strided-requires Inv-loop μ-loop
 strided-requires c κs = omega arith
 
-store-requires : tie.Need-store-requires Inv-loop μ-loop
-store-requires c κs = omega arith
+put-requires : tie.Need-put-requires Inv-loop μ-loop
+put-requires c κs = omega arith
 
 add-l : tie.Need-add-l Inv-loop μ-loop
 add-l c = omega arith
@@ -47,8 +47,8 @@ loop-again c =
     let s : List ℕ = a .s .now in
     let l = k .loop .l in (
       omega arith,
-      c .before .before .store .kept .0 ∙ k .loop .inv .1,
-      c .before .before .store .ensures
+      c .before .before .put .kept .0 ∙ k .loop .inv .1,
+      c .before .before .put .ensures
           ∙ ap₂ (λ (t b : List ℕ). withBlock t (a .at + 16 * l) b) (k .loop .inv .2) (y .ensures ∙ strided-lane s l)
           ∙ gather-turn s (a .d .now) (a .at) l (omega arith),
     )
@@ -69,10 +69,10 @@ gather-spec =
     Inv-loop
     μ-loop
     loop-holds
-    mul-store
-    add-store
+    mul-put
+    add-put
     strided-requires
-    store-requires
+    put-requires
     add-l
     loop-less
     loop-again

@@ -21,8 +21,8 @@ abbrev μ-loop : tie.MeasureT-loop
 loop-holds : tie.Need-loop-holds Inv-loop μ-loop
 loop-holds c = (omega arith, made-none (omega arith))
 
-mul-store : tie.Need-mul-store Inv-loop μ-loop
-mul-store c = omega arith
+mul-put : tie.Need-mul-put Inv-loop μ-loop
+mul-put c = omega arith
 
 mul-load : tie.Need-mul-load Inv-loop μ-loop
 mul-load c =
@@ -40,8 +40,8 @@ mul-load-2 c = omega arith
 load-requires : tie.Need-load-requires Inv-loop μ-loop
 load-requires c κs = omega arith
 
-store-requires : tie.Need-store-requires Inv-loop μ-loop
-store-requires c κs = omega arith
+put-requires : tie.Need-put-requires Inv-loop μ-loop
+put-requires c κs = omega arith
 
 add-p : tie.Need-add-p Inv-loop μ-loop
 add-p c = omega arith
@@ -55,7 +55,7 @@ loop-again c =
     let k = c .before .before .before .before .before .before in
     let a = k .before .before .before .args in (
       omega arith,
-      made-more (k .loop .inv .1) (omega arith) (y .result) (array-block (y .result) _ (y .ok) .size) (c .before .before .store .ensures)
+      made-more (k .loop .inv .1) (omega arith) (y .result) (array-block (y .result) _ (y .ok) .size) (c .before .before .put .ensures)
           (λ l h. ap (λ (r : List ℕ). byte r l) (y .ensures) ∙ pick-plane (a .k) (a .s .now) (k .loop .p) (omega arith) l h),
     )
 
@@ -73,12 +73,12 @@ pick-spec =
     Inv-loop
     μ-loop
     loop-holds
-    mul-store
+    mul-put
     mul-load
     add-load
     mul-load-2
     load-requires
-    store-requires
+    put-requires
     add-p
     loop-less
     loop-again

@@ -19,14 +19,14 @@ abbrev μ-loop : tie.MeasureT-loop
 loop-holds : tie.Need-loop-holds Inv-loop μ-loop
 loop-holds c = (omega arith, made-none (omega arith))
 
-mul-store : tie.Need-mul-store Inv-loop μ-loop
-mul-store c = omega arith
+mul-put : tie.Need-mul-put Inv-loop μ-loop
+mul-put c = omega arith
 
 prepared-requires : tie.Need-prepared-requires Inv-loop μ-loop
 prepared-requires c κs = omega arith
 
-store-requires : tie.Need-store-requires Inv-loop μ-loop
-store-requires c κs = omega arith
+put-requires : tie.Need-put-requires Inv-loop μ-loop
+put-requires c κs = omega arith
 
 add-p : tie.Need-add-p Inv-loop μ-loop
 add-p c = omega arith
@@ -38,7 +38,7 @@ loop-again : tie.Need-loop-again Inv-loop μ-loop
 loop-again c =
     let y = c .before .before .before .prepared in
     let k = c .before .before .before .before .before .before in
-    (omega arith, made-more (k .loop .inv .1) (omega arith) (y .result) (array-block (y .result) _ (y .ok) .size) (c .before .before .store .ensures) (y .ensures))
+    (omega arith, made-more (k .loop .inv .1) (omega arith) (y .result) (array-block (y .result) _ (y .ok) .size) (c .before .before .put .ensures) (y .ensures))
 
 same-length : tie.Need-same-length Inv-loop μ-loop
 same-length c = omega arith
@@ -54,9 +54,9 @@ prepare-spec =
     Inv-loop
     μ-loop
     loop-holds
-    mul-store
+    mul-put
     prepared-requires
-    store-requires
+    put-requires
     add-p
     loop-less
     loop-again

@@ -23,8 +23,8 @@ abbrev μ-loop : tie.MeasureT-loop
 loop-holds : tie.Need-loop-holds Inv-loop μ-loop
 loop-holds c = (omega arith, made-none (omega arith))
 
-mul-store : tie.Need-mul-store Inv-loop μ-loop
-mul-store c = omega arith
+mul-put : tie.Need-mul-put Inv-loop μ-loop
+mul-put c = omega arith
 
 add-strided : tie.Need-add-strided Inv-loop μ-loop
 add-strided c = omega arith
@@ -32,8 +32,8 @@ add-strided c = omega arith
 strided-requires : tie.Need-strided-requires Inv-loop μ-loop
 strided-requires c κs = omega arith
 
-store-requires : tie.Need-store-requires Inv-loop μ-loop
-store-requires c κs = omega arith
+put-requires : tie.Need-put-requires Inv-loop μ-loop
+put-requires c κs = omega arith
 
 add-p : tie.Need-add-p Inv-loop μ-loop
 add-p c = omega arith
@@ -47,7 +47,7 @@ loop-again c =
     let k = c .before .before .before .before .before .before in
     let a = k .before .before .before .args in (
       omega arith,
-      made-more (k .loop .inv .1) (omega arith) (y .result) (array-block (y .result) _ (y .ok) .size) (c .before .before .store .ensures)
+      made-more (k .loop .inv .1) (omega arith) (y .result) (array-block (y .result) _ (y .ok) .size) (c .before .before .put .ensures)
           (λ l h. ap (λ (r : List ℕ). byte r l) (y .ensures) ∙ spread-plane (a .s .now) (a .at) (a .n) (k .loop .p) (omega arith) l h),
     )
 
@@ -68,10 +68,10 @@ spread-spec =
     Inv-loop
     μ-loop
     loop-holds
-    mul-store
+    mul-put
     add-strided
     strided-requires
-    store-requires
+    put-requires
     add-p
     loop-less
     loop-again

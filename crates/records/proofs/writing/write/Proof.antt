@@ -14,14 +14,14 @@ use Rattle.records.proofs.writing.write.Tie as tie
 lead-requires : tie.Need-lead-requires
 lead-requires c κs = search needs
 
-store-requires : tie.Need-store-requires
-store-requires c κs = search needs
+put-requires : tie.Need-put-requires
+put-requires c κs = search needs
 
 copy-requires : tie.Need-copy-requires
 copy-requires c κs =
     let st = c .before .before .before in
     let p = st .before .before .before .before .before in
-    omega (arith, st .store .kept .0, p .pre)
+    omega (arith, st .put .kept .0, p .pre)
 
 add-clear : tie.Need-add-clear
 add-clear c =
@@ -33,12 +33,12 @@ clear-requires c κs =
     let cp = c .before .before .before in
     let st = cp .before .before .before .before in
     let p = st .before .before .before .before .before in
-    omega (arith, cp .copy .kept .0, st .store .kept .0, p .pre)
+    omega (arith, cp .copy .kept .0, st .put .kept .0, p .pre)
 
 same-length : tie.Need-same-length
 same-length c =
     let cp = c .before .before .before .before .before .before in
-    c .before .before .clear .kept .0 ∙ cp .copy .kept .0 ∙ cp .before .before .before .before .store .kept .0
+    c .before .before .clear .kept .0 ∙ cp .copy .kept .0 ∙ cp .before .before .before .before .put .kept .0
 
 returns : tie.Need-returns
 unfolding recordOf
@@ -51,8 +51,8 @@ returns c =
     let a = p .args in
     let h : List ℕ = le .lead .result in
     cl .clear .ensures
-    ∙ writing (a .r .now) h (a .text .now) (st .store .last .0) (cp .copy .last .0) (p .pre .0) (ap length (le .lead .ensures) ∙ length-lead (a .n) (a .v) (a .m) _)
-    (p .pre .1) (st .store .ensures) (cp .copy .ensures)
+    ∙ writing (a .r .now) h (a .text .now) (st .put .last .0) (cp .copy .last .0) (p .pre .0) (ap length (le .lead .ensures) ∙ length-lead (a .n) (a .v) (a .m) _)
+    (p .pre .1) (st .put .ensures) (cp .copy .ensures)
     ∙ ap (λ (x : List ℕ). x ++ (a .text .now ++ replicate (textMost - length (a .text .now)) 0)) (le .lead .ensures)
 
 pub write-spec : {M : Type 1} → statement M
@@ -60,7 +60,7 @@ write-spec =
     tie.close
     (tie.spec
     lead-requires
-    store-requires
+    put-requires
     copy-requires
     add-clear
     clear-requires

@@ -20,8 +20,8 @@ doubled-requires c κs = search needs
 xor-requires : tie.Need-xor-requires
 xor-requires c κs = search needs
 
-store-requires : tie.Need-store-requires
-store-requires c κs = search needs
+put-requires : tie.Need-put-requires
+put-requires c κs = search needs
 
 same-length : tie.Need-same-length
 same-length c = search needs
@@ -38,7 +38,7 @@ returns c =
     let X : List ℕ = blockAt (a .s .now) (a .at) in
     let n : List ℕ = db .doubled .result in (
       db .doubled .ensures ∙ sym (mask-doubled f (a .m1) (a .at) (a .m) X (t .if1 .taken)),
-      st .store .ensures
+      st .put .ensures
           ∙ ap (withBlock (a .s .now) (a .at))
           (xo .xor .ensures ∙ ap (λ (x : List ℕ). x ⊕ n) (lo .load .ensures) ∙ sym (ccc-doubled f (a .m1) (a .at) n X (t .if1 .taken))),
     )
@@ -52,8 +52,8 @@ crypt-requires c κs = search needs
 xor-requires-3 : tie.Need-xor-requires-3
 xor-requires-3 c κs = search needs
 
-store-requires-2 : tie.Need-store-requires-2
-store-requires-2 c κs = search needs
+put-requires-2 : tie.Need-put-requires-2
+put-requires-2 c κs = search needs
 
 xor-requires-4 : tie.Need-xor-requires-4
 xor-requires-4 c κs = search needs
@@ -76,7 +76,7 @@ returns-2 c =
     let mp : x2 .xor2 .result ≡ X ⊕ a .m1 = x2 .xor2 .ensures ∙ ap (λ (x : List ℕ). x ⊕ a .m1) (lo .load .ensures) in
     let mc : cr .crypt .result ≡ f (X ⊕ a .m1) = cr .crypt .ensures ∙ ap f mp in (
       c .xor4 .ensures ∙ ap₂ (λ (x y : List ℕ). x ⊕ y) mp mc ∙ sym (mask-new f (a .m1) (a .at) (a .m) X (t .if1 .left)),
-      st .store2 .ensures
+      st .put2 .ensures
           ∙ ap (withBlock (a .s .now) (a .at))
           (x3 .xor3 .ensures ∙ ap (λ (x : List ℕ). x ⊕ a .m1) mc ∙ sym (ccc-new f (a .m1) (a .at) r X (t .if1 .left))),
     )
@@ -88,13 +88,13 @@ one-spec =
     load-requires
     doubled-requires
     xor-requires
-    store-requires
+    put-requires
     same-length
     returns
     xor-requires-2
     crypt-requires
     xor-requires-3
-    store-requires-2
+    put-requires-2
     xor-requires-4
     same-length-2
     returns-2)

@@ -53,13 +53,13 @@ total-requires-2 c κs = short-kept (c .before .before .before .before)
 xor-requires-3 : tie.Need-xor-requires-3
 xor-requires-3 c κs = search needs
 
-store-requires : tie.Need-store-requires
-store-requires c κs = short-kept (c .before .before .before .before .before .before)
+put-requires : tie.Need-put-requires
+put-requires c κs = short-kept (c .before .before .before .before .before .before)
 
 same-length : tie.Need-same-length
 same-length c =
     let sh = c .before .before .before .before .before .before .before .before .before in
-    c .before .before .store .kept .0 ∙ sh .short .kept .1 .0 ∙ sh .before .before .before .before .blocks2 .kept .1 .1 .1 .1 .0
+    c .before .before .put .kept .0 ∙ sh .short .kept .1 .0 ∙ sh .before .before .before .before .blocks2 .kept .1 .1 .1 .1 .0
 
 returns : tie.Need-returns
 returns c =
@@ -80,7 +80,7 @@ returns c =
     let s2 : List ℕ = sh .short .last .1 .0 in
     let f : List ℕ → List ℕ = crypted (a .back) (a .w) (a .nr) in
     let h : 16 ≤ length s = p .pre .2 in
-    st .store .ensures
+    st .put .ensures
     ∙ mixing f (length-crypted (a .back) (a .w) (a .nr)) (a .t) s h (xo .xor .result) (cr .crypt .result) (mc .mc1 .result) (x2 .xor2 .result)
     (bl .blocks2 .last .1 .1 .1 .1 .0) s2 (x3 .xor3 .result)
     (xo .xor .ensures ∙ ap (λ (x : List ℕ). x ⊕ a .t) (to .total .ensures ∙ ap (λ (x : List ℕ). totalOf x (drop 16 s)) (lo .load .ensures)))
@@ -105,6 +105,6 @@ mix-spec =
     short-requires
     total-requires-2
     xor-requires-3
-    store-requires
+    put-requires
     same-length
     returns)

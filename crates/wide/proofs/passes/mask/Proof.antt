@@ -37,8 +37,8 @@ load-requires c κs = omega arith
 xor-requires : tie.Need-xor-requires Inv-loop μ-loop
 xor-requires c κs = search needs
 
-store-requires : tie.Need-store-requires Inv-loop μ-loop
-store-requires c κs = omega arith
+put-requires : tie.Need-put-requires Inv-loop μ-loop
+put-requires c κs = omega arith
 
 doubled-requires : tie.Need-doubled-requires Inv-loop μ-loop
 doubled-requires c κs = search needs
@@ -58,12 +58,12 @@ loop-again c =
     let k = st .before .before .before .before .before .before in
     let m = k .loop .m in
     let at = k .loop .at in
-    let n : length (st .store .last .0) ≡ length (k .loop .s) = st .store .kept .0 in
+    let n : length (st .put .last .0) ≡ length (k .loop .s) = st .put .kept .0 in
     let y : length (xo .result) ≡ 16 = array-block (xo .result) _ (xo .ok) .size in (
       omega arith,
       n ∙ k .loop .inv .1,
       array-block (c .doubled .result) _ (c .doubled .ok) .size,
-      ap₂ (λ (r d : List ℕ). take (at + 16) r ++ onBlocks (masked d) (drop (at + 16) r)) (st .store .ensures) (c .doubled .ensures)
+      ap₂ (λ (r d : List ℕ). take (at + 16) r ++ onBlocks (masked d) (drop (at + 16) r)) (st .put .ensures) (c .doubled .ensures)
           ∙ on-turn (masked m) (masked (double m)) at (k .loop .s) (xo .result) (omega arith) y
           (λ xs. ap (λ (z : List ℕ). z ∷ masked (double m) xs) (sym (xo .ensures ∙ ap (λ (x : List ℕ). x ⊕ m) (lo .ensures))))
           ∙ k .loop .inv .3,
@@ -86,7 +86,7 @@ mask-spec =
     sub-loop
     load-requires
     xor-requires
-    store-requires
+    put-requires
     doubled-requires
     add-at
     loop-less

@@ -1,4 +1,4 @@
--- `block::store` meets its contract: after i turns i bytes of the block stand in their place. `b` is the whole of its first 16 bytes.
+-- `block::put` meets its contract: after i turns i bytes of the block stand in their place. `b` is the whole of its first 16 bytes.
 -- Assumes nothing.
 use mathlib.Core.Path.{_≡_, sym, ap, _∙_}
 use mathlib.Core.List.{List, _++_}
@@ -9,8 +9,8 @@ use native.Mathlib.Omega.{arith}
 use borrow.Author.Needs.{needs}
 use lib.ListN.{length, getD, take, drop, set}
 use lib.Seq.{paste, paste-zero, paste-suc, length-paste, take-all}
-use Rattle.block.proofs.store.Statement.{statement}
-use Rattle.block.proofs.store.Tie as tie
+use Rattle.block.proofs.put.Statement.{statement}
+use Rattle.block.proofs.put.Tie as tie
 
 abbrev Inv-loop : tie.InvT-loop
 Inv-loop s₀ at b i₀ s i = (i ≤ 16) × (length b ≡ 16) × (s ≡ paste s₀ at b i)
@@ -68,8 +68,8 @@ returns c =
     ∙ ap (λ (n : ℕ). paste (a .s .now) (a .at) (a .t3) n) e
     ∙ ap (λ (b : List ℕ). take (a .at) (a .s .now) ++ b ++ drop (a .at + 16) (a .s .now)) (take-all 16 (a .t3) (le-of-eq lb))
 
-pub store-spec : {M : Type 1} → statement M
-store-spec =
+pub put-spec : {M : Type 1} → statement M
+put-spec =
     tie.close
     (tie.spec
     Inv-loop

@@ -1,4 +1,4 @@
--- `records::writing::copy` meets its contract: after i turns i bytes of the text stand in their place.
+-- `block::copy` meets its contract: after i turns i bytes of the text stand in their place.
 -- Assumes nothing.
 use mathlib.Core.Path.{_≡_, refl, sym, ap, _∙_}
 use mathlib.Core.List.{List, _++_, append-assoc}
@@ -8,8 +8,8 @@ use native.Mathlib.Numerals.{add-one}
 use native.Mathlib.Omega.{arith}
 use lib.ListN.{length, getD, take, drop, set}
 use lib.Seq.{paste, paste-zero, paste-suc, length-paste, take-all}
-use Rattle.records.proofs.writing.copy.Statement.{statement}
-use Rattle.records.proofs.writing.copy.Tie as tie
+use Rattle.block.proofs.copy.Statement.{statement}
+use Rattle.block.proofs.copy.Tie as tie
 
 abbrev Inv-loop : tie.InvT-loop
 Inv-loop s₀ at text i₀ s i = (i ≤ length text) × (s ≡ paste s₀ at text i)
