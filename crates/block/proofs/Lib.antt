@@ -10,4 +10,3 @@ pub mod DoubleLaws
 pub mod PadLaws
 pub mod RowLaws
 pub mod PartLaws
-pub mod BoolLaws

@@ -1,39 +1,19 @@
 -- Laws of check: the tests on a slot, the counts in a loop, and each way out of the call.
 -- Assumes nothing.
-use mathlib.Core.Path.{_≡_, refl, sym, ap, ap₂, _∙_, subst}
+use mathlib.Core.Path.{_≡_, refl, sym, ap, ap₂, _∙_}
 use mathlib.Core.Bool.{Bool, true, false, cond, not, _&&_, _||_}
 use mathlib.Core.List.{List}
-use Prim.Native.Nat.{ℕ, _+_, _-_, _*_, _/_, _%_, _≤_, _<_}
-use native.Mathlib.Numerals.{add-one}
+use Prim.Native.Nat.{ℕ, _+_, _-_, _≤_, _<_}
 use native.Mathlib.Omega.{arith}
-use borrow.Author.Tests.{ltb-false, eqb-true, not-false, lt-ltb, le-ltb, eq-eqb, ne-eqb}
-use lib.Dec.{T, eqb, ltb}
-use lib.ListN.{length}
+use borrow.Author.Tests.{lt-ltb, le-ltb, eq-eqb, ne-eqb}
+use lib.Dec.{eqb, ltb}
+use Rattle.numbers.specs.declared.Refusal.the-variants.{StoreLength}
 use Rattle.records.specs.Record.{num, mark, sound}
-use Rattle.slots.specs.Slots.{slots, slot, scan, lowest, tally, find}
+use Rattle.slots.specs.Slots.{slots, slot, scan, lowest, tally, find, badSize}
 use Rattle.slots.proofs.FindLaws.{scan-start, tally-le, tally-not}
-use Rattle.plans.specs.declared.Refusal.the-variants.{StoreSize}
-use Rattle.plans.specs.Plans.{badSize}
 use Rattle.checking.specs.declared.Checked.{Checked}
 use Rattle.checking.specs.declared.Checked.the-variants as checked
 use Rattle.checking.specs.Check.{faulty, firstFault, used, marked, counted, counts, checkAnswer}
-
--- ---- a store of a size that is taken
-
-no : true ≡ false → ⊥
-no e = subst T e tt
-
-or-false : (a b : Bool) → (a || b) ≡ false → (a ≡ false) × (b ≡ false)
-or-false true b h = absurd (no h)
-or-false false b h = (refl, h)
-
-pub bad-size-false : (s : List ℕ) → badSize s ≡ false → (length s ≡ slots s * 2112) × (slots s ≤ 1024)
-unfolding badSize
-bad-size-false s h =
-    let t = or-false (not (eqb (length s % 2112) 0)) (ltb 1024 (length s / 2112)) h in
-    let m : length s % 2112 ≡ 0 = eqb-true (length s % 2112) 0 (not-false (eqb (length s % 2112) 0) (t .0)) in
-    let l : length s / 2112 ≤ 1024 = ltb-false 1024 (length s / 2112) (t .1) in
-    (omega arith, l)
 
 -- ---- the tests on a slot
 
@@ -71,22 +51,6 @@ fault-start s c e = ap (lowest (faulty s)) (sym e) ∙ sym (scan-start (faulty s
 
 -- ---- counts
 
--- a loop that counts: those below k, and one turn more
-module _ (p : ℕ → Bool) where
-  pub tally-start : 0 ≡ tally p 0
-  unfolding tally
-  tally-start = refl
-
-  pub tally-skip : (k : ℕ) → p k ≡ false → tally p k ≡ tally p (k + 1)
-  unfolding tally
-  tally-skip k e =
-      let z : tally p k ≡ tally p k + 0 = omega arith in
-      z ∙ ap (λ (t : Bool). tally p k + cond t 1 0) (sym e) ∙ ap (tally p) (sym (add-one k))
-
-  pub tally-more : (k : ℕ) → p k ≡ true → tally p k + 1 ≡ tally p (k + 1)
-  unfolding tally
-  tally-more k e = ap (λ (t : Bool). tally p k + cond t 1 0) (sym e) ∙ ap (tally p) (sym (add-one k))
-
 -- whether slot k passes a test on its record
 abbrev pub passing : (List ℕ → Bool) → List ℕ → ℕ → Bool
 passing p s k = p (slot s k)
@@ -109,13 +73,13 @@ module _ (p : List ℕ → Bool) (s : List ℕ) where
 module _ (s : List ℕ) where
   -- the answer once the two tests are known
   abbrev answer : Bool → Bool → Checked
-  answer a b = cond a (checked.Refused StoreSize) (cond b (checked.Fault (firstFault s)) (counts s))
+  answer a b = cond a (checked.Refused StoreLength) (cond b (checked.Fault (firstFault s)) (counts s))
 
   from-tests : (a b : Bool) → badSize s ≡ a → ltb (firstFault s) (slots s) ≡ b → checkAnswer s ≡ answer a b
   unfolding checkAnswer
   from-tests a b p q = ap₂ answer p q
 
-  pub check-refused : badSize s ≡ true → checked.Refused StoreSize ≡ checkAnswer s
+  pub check-refused : badSize s ≡ true → checked.Refused StoreLength ≡ checkAnswer s
   check-refused e = sym (from-tests true (ltb (firstFault s) (slots s)) e refl)
 
   pub check-fault : badSize s ≡ false → (k c : ℕ) → k ≡ firstFault s → c ≡ slots s → k < c → checked.Fault k ≡ checkAnswer s

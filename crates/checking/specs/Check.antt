@@ -5,10 +5,9 @@ use mathlib.Core.Path.{_≡_, sym, _∙_}
 use mathlib.Core.List.{List}
 use Prim.Native.Nat.{ℕ}
 use lib.Dec.{eqb, ltb}
+use Rattle.numbers.specs.declared.Refusal.the-variants.{StoreLength}
 use Rattle.records.specs.Record.{num, mark, sound}
-use Rattle.slots.specs.Slots.{slots, slot, lowest, tally, find}
-use Rattle.plans.specs.declared.Refusal.the-variants.{StoreSize}
-use Rattle.plans.specs.Plans.{badSize}
+use Rattle.slots.specs.Slots.{slots, slot, lowest, tally, find, badSize}
 use Rattle.checking.specs.declared.Checked.{Checked}
 use Rattle.checking.specs.declared.Checked.the-variants as checked
 
@@ -35,7 +34,7 @@ abbrev pub counts : List ℕ → Checked
 counts s = checked.Counts (counted used s) (counted (λ r. not (used r)) s) (counted (marked 0) s) (counted (marked 1) s) (counted (marked 2) s)
 
 unfoldable pub checkAnswer : List ℕ → Checked
-checkAnswer s = cond (badSize s) (checked.Refused StoreSize) (cond (ltb (firstFault s) (slots s)) (checked.Fault (firstFault s)) (counts s))
+checkAnswer s = cond (badSize s) (checked.Refused StoreLength) (cond (ltb (firstFault s) (slots s)) (checked.Fault (firstFault s)) (counts s))
 
 -- what check promises
 abbrev pub CheckCalled : List ℕ → Checked → Type 0

@@ -5,10 +5,11 @@ ghost use mathlib.Core.Path.{_≡_};
 ghost use Prim.Native.Nat.{_<_};
 ghost use Rattle.slots.specs.Slots.{slots, slot};
 ghost use Rattle.checking.specs.Check.{faulty, firstFault, used, marked, counted, CheckCalled};
-use plans::Refusal;
-use plans::bad_size;
+use numbers::Refusal;
+use slots::bad_size;
 use slots::count;
 use slots::number_at;
+use slots::record_at;
 
 // What check answers: the five counts of a sound store, or the lowest faulty slot.
 pub enum Checked {
@@ -27,7 +28,7 @@ pub fn check(store: &[u8]) -> Checked
     ensures { λ a. ⌜ CheckCalled (now (store .entry)) a ⌝ }
 {
     if bad_size(store) {
-        return Checked::Refused(Refusal::StoreSize);
+        return Checked::Refused(Refusal::StoreLength);
     }
     let k = first_fault(store);
     if k < count(store) {
@@ -63,12 +64,11 @@ fn is_faulty(store: &[u8], k: usize) -> bool
     requires { ⌜ k < slots (now store) ⌝ }
     ensures { λ b. ⌜ b ≡ faulty (now (store .entry)) k ⌝ }
 {
-    let at = k * 2112;
-    let end = at + 2112;
-    if !records::is_sound(&store[at..end]) {
+    let r = record_at(store, k);
+    if !records::is_sound(r) {
         return true;
     }
-    let n = records::number(&store[at..end]);
+    let n = records::number(r);
     if n == 0 {
         return false;
     }
@@ -107,10 +107,9 @@ fn has_mark(store: &[u8], k: usize, m: u8) -> bool
     requires { ⌜ k < slots (now store) ⌝ }
     ensures { λ b. ⌜ b ≡ marked m (slot (now (store .entry)) k) ⌝ }
 {
-    let at = k * 2112;
-    let end = at + 2112;
-    if records::number(&store[at..end]) == 0 {
+    let r = record_at(store, k);
+    if records::number(r) == 0 {
         return false;
     }
-    records::mark(&store[at..end]) == m
+    records::mark(r) == m
 }

@@ -1,6 +1,7 @@
-// What is wrong with keys, store and text by their lengths: 01's 1, 4 and 6.
+// What is wrong with keys and text by their lengths: 01's 1 and 6.
 ghost use mathlib.Core.Path.{_≡_};
-ghost use Rattle.plans.specs.Plans.{badKeys, badSize, badText};
+ghost use Rattle.plans.specs.Plans.{badKeys, badLength};
+use records::TEXT_MOST;
 
 pub fn bad_keys(old: &[u8], new: &[u8]) -> bool
     ensures { λ b. ⌜ b ≡ badKeys (now (old .entry)) (now (new .entry)) ⌝ }
@@ -11,20 +12,12 @@ pub fn bad_keys(old: &[u8], new: &[u8]) -> bool
     !eme2::key_taken(new)
 }
 
-pub fn bad_size(store: &[u8]) -> bool
-    ensures { λ b. ⌜ b ≡ badSize (now (store .entry)) ⌝ }
+// Of a text of l bytes.
+pub fn bad_length(l: usize) -> bool
+    ensures { λ b. ⌜ b ≡ badLength l ⌝ }
 {
-    if store.len() % 2112 != 0 {
+    if l < 16 {
         return true;
     }
-    store.len() / 2112 > 1024
-}
-
-pub fn bad_text(text: &[u8]) -> bool
-    ensures { λ b. ⌜ b ≡ badText (now (text .entry)) ⌝ }
-{
-    if text.len() < 16 {
-        return true;
-    }
-    text.len() > 2096
+    l > TEXT_MOST
 }

@@ -14,7 +14,7 @@ use Rattle.block.specs.Bytes.{Bytes}
 use Rattle.block.specs.Blocks.{blockAt}
 use Rattle.block.proofs.BytesLaws.{bytes-take, bytes-drop}
 use Rattle.eme2.specs.Transform.{afterwards}
-use Rattle.eme2.proofs.Promise.{length-kept}
+use Rattle.eme2.proofs.Promise.{length-kept, bytes-kept}
 use Rattle.records.specs.Record.{num, rev, mark, len, leadOf, stored}
 use Rattle.sheets.specs.Text.{textOf, sheet}
 use Rattle.block.proofs.PartLaws.{part-changed}
@@ -86,6 +86,21 @@ module _ (r : List ℕ) where
         by-mark true b = lt
         by-mark false true = length-kept true o (take 16 r) t bo (bytes-take 16 r br) bt ∙ lt
         by-mark false false = length-kept true w (take 16 r) t bw (bytes-take 16 r br) bt ∙ lt
+
+pub bytes-textOf : (o w r : List ℕ) → Bytes o → Bytes w → Bytes r → Bytes (textOf o w r)
+unfolding textOf leadOf stored
+bytes-textOf o w r bo bw br = by-mark (eqb (mark r) 0) (eqb (mark r) 1)
+  where
+    t : List ℕ
+    t = take (len r) (drop 16 r)
+
+    bt : Bytes t
+    bt = bytes-take (len r) (drop 16 r) (bytes-drop 16 r br)
+
+    by-mark : (a b : Bool) → Bytes (cond a t (afterwards true (cond b o w) (take 16 r) t))
+    by-mark true b = bt
+    by-mark false true = bytes-kept true o (take 16 r) t bo (bytes-take 16 r br) bt
+    by-mark false false = bytes-kept true w (take 16 r) t bw (bytes-take 16 r br) bt
 
 -- a text taken into room of its own, of a length that is kept, is found there again
 pub taken : (x out : List ℕ) (l : ℕ) → l ≤ length out → length (x ++ drop l out) ≡ length out → take (l - 0) (x ++ drop l out) ≡ x

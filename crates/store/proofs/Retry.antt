@@ -1,112 +1,64 @@
 -- A call that had run and is made again: a revision is refused with 8, and an add with 11, while nothing else came between.
 -- Assumes nothing.
 use mathlib.Core.Path.{_≡_, refl, sym, ap, _∙_}
-use mathlib.Core.Bool.{true, false, not, _||_}
+use mathlib.Core.Bool.{true, false}
 use mathlib.Core.List.{List}
-use Prim.Native.Nat.{ℕ, _+_, _/_, _%_, _≤_, _<_}
+use Prim.Native.Nat.{ℕ, _+_, _≤_, _<_}
 use native.Mathlib.Omega.{arith}
-use borrow.Author.Tests.{eqb-false, eqb-true, eq-eqb, ne-eqb, not-false}
-use lib.Dec.{eqb, ltb}
+use lib.Dec.{eqb}
 use lib.ListN.{length}
 use Rattle.block.specs.Bytes.{Bytes}
-use Rattle.block.proofs.RowLaws.{length-putRow, row-put-below, bytes-row}
-use Rattle.records.specs.Record.{num, rev, sound}
-use Rattle.records.specs.Text.{sheet}
+use Rattle.block.proofs.RowLaws.{bytes-row}
+use Rattle.numbers.specs.declared.Refusal.{Refusal}
+use Rattle.numbers.specs.declared.Refusal.the-variants.{OtherRevision, SheetPresent}
+use Rattle.records.specs.Record.{recordSize, greatestRevision, num, rev, sound}
 use Rattle.records.proofs.FieldLaws.{rev-bound}
-use Rattle.records.proofs.SheetLaws.{length-sheet}
 use Rattle.slots.specs.Slots.{slots, slot, put, find}
-use Rattle.slots.proofs.FindLaws.{hasNum, lowest-is, find-lowest}
+use Rattle.slots.proofs.FindLaws.{find-lowest, find-is}
+use Rattle.slots.proofs.PutLaws.{slots-put, size-put, slot-put, slot-other, find-put}
+use Rattle.sheets.specs.Text.{sheet}
+use Rattle.sheets.proofs.SheetLaws.{num-sheet, length-sheet}
 use Rattle.plans.specs.declared.Plan.{Plan}
 use Rattle.plans.specs.declared.Plan.the-variants.{Refuse, At}
-use Rattle.plans.specs.declared.Refusal.the-variants.{OtherRevision, SheetThere}
-use Rattle.plans.specs.Plans.{badSize, badText, absent, reviseAtPlan, revisePlan, addPlan}
-use Rattle.plans.proofs.PlanLaws.{yes, no, passed, slotOf, there, text-fits, long-enough, revise-at}
+use Rattle.plans.specs.Plans.{badText, addPlan, revisePlan}
+use Rattle.plans.proofs.PlanLaws.{add-says, revise-says, add-present, revise-other}
 use Rattle.store.specs.declared.Stored.{Stored}
 use Rattle.store.specs.declared.Stored.the-variants as stored
 use Rattle.store.specs.Calls.{addAnswer, addStore, reviseAnswer, reviseStore}
-use Rattle.store.proofs.RoundTrip.{number-back, revision-back, sound-back}
-
--- a store with another record in one of its slots
-module _ (s : List ℕ) (k : ℕ) (h : k < slots s) (x : List ℕ) (l : length x ≡ 2112) where
-  same-length : length (put s k x) ≡ length s
-  same-length = length-putRow 2112 s k (omega arith) x l
-
-  same-size : badSize (put s k x) ≡ badSize s
-  unfolding badSize
-  same-size = ap (λ (n : ℕ). not (eqb (n % 2112) 0) || ltb 1024 (n / 2112)) same-length
-
-  below-kept : (j : ℕ) → j < k → slot (put s k x) j ≡ slot s j
-  below-kept j g = row-put-below 2112 s k (omega arith) x l j (omega arith)
-
-  -- the slot is the lowest with its number where no slot below it has that number
-  found-there : (n : ℕ) → num (slot (put s k x) k) ≡ n → ((j : ℕ) → j < k → num (slot s j) ≡ n → ⊥) → find (put s k x) n ≡ k
-  unfolding find
-  found-there n e f =
-      lowest-is (hasNum (put s k x) n) (slots (put s k x)) k (omega (arith, same-length)) (eq-eqb (num (slot (put s k x) k)) n e)
-      (λ j g. ap (λ (r : List ℕ). eqb (num r) n) (below-kept j g) ∙ ne-eqb (num (slot s j)) n (f j g))
-
-  present : (n : ℕ) → find (put s k x) n ≡ k → absent (put s k x) n ≡ false
-  present n e = ne-eqb (find (put s k x) n) (slots (put s k x)) (λ q. let z : ⊥ = omega (arith, same-length) in z)
+use Rattle.store.proofs.RoundTrip.{revision-back, sound-back}
 
 module _ (o w s : List ℕ) (n : ℕ) (t : List ℕ) (k : ℕ) (bw : Bytes w) (bs : Bytes s) (bt : Bytes t) (hn : n < 4294967296) where
   -- a revision accepted and then tried again, with whatever text, finds another revision
   another-revision : (v : ℕ) (t′ : List ℕ) → badText t′ ≡ false → revisePlan o w s n v t ≡ At k
       → revisePlan o w (put s k (sheet w n (v + 1) t)) n v t′ ≡ Refuse OtherRevision
-  unfolding revisePlan reviseAtPlan
   another-revision v t′ b e =
-      let p1 = passed _ _ _ k e in
-      let p2 = passed _ _ _ k (p1 .1) in
-      let p3 = passed _ _ _ k (p2 .1) in
-      let p4 = passed _ _ _ k (p3 .1) in
-      let p5 = passed _ _ _ k (p4 .1) in
-      let p6 = passed _ _ _ k (p5 .1) in
-      let p7 = passed _ _ _ k (p6 .1) in
-      let p8 = passed _ _ _ k (p7 .1) in
-      let f : find s n ≡ k = ap slotOf (p8 .1) in
-      let h : k < slots s = omega (arith, there s n (p5 .0)) in
-      let r : v ≡ rev (slot s (find s n)) = eqb-true v (rev (slot s (find s n))) (not-false (eqb v (rev (slot s (find s n)))) (p7 .0)) in
-      let u : rev (slot s (find s n)) ≡ 65535 → ⊥ = eqb-false (rev (slot s (find s n))) 65535 (p8 .0) in
-      let hv : v + 1 < 65536 = omega (arith, rev-bound (slot s (find s n)) (bytes-row 2112 s (find s n) bs), u) in
-      let ht : length t ≤ 2096 = text-fits t (p4 .0) in
-      let lt : 16 ≤ length t = long-enough t (p4 .0) in
-      let z : n ≡ 0 → ⊥ = eqb-false n 0 (p3 .0) in
+      let a = revise-says o w s n v t k e in
+      let h : k < slots s = a .at .within in
+      let hv : v + 1 ≤ greatestRevision = omega (arith, a .seen, a .below, rev-bound (slot s k) (bytes-row recordSize s k bs)) in
       let x : List ℕ = sheet w n (v + 1) t in
-      let l : length x ≡ 2112 = length-sheet w n (v + 1) t bw bt ht in
-      let g : find (put s k x) n ≡ k =
-      found-there s k h x l n (number-back w n (v + 1) t bw bt ht s k h hn) (λ j q. find-lowest s n j (omega arith)) in
-      let sk : sound (slot (put s k x) k) ≡ true = sound-back w n (v + 1) t bw bt ht s k h z hn (omega arith) hv lt in
-      let rk : rev (slot (put s k x) k) ≡ v + 1 = revision-back w n (v + 1) t bw bt ht s k h hv in
-      no _ _ _ (p1 .0)
-      ∙ no _ _ _ (same-size s k h x l ∙ p2 .0)
-      ∙ no _ _ _ (p3 .0)
-      ∙ no _ _ _ b
-      ∙ no _ _ _ (present s k h x l n g)
-      ∙ no _ _ _ (ap (λ (j : ℕ). not (sound (slot (put s k x) j))) g ∙ ap not sk)
-      ∙ yes _ _ _ (ap (λ (j : ℕ). not (eqb v (rev (slot (put s k x) j)))) g ∙ ap not (ne-eqb v (rev (slot (put s k x) k)) (λ q. let y : ⊥ = omega arith in y)))
+      let s′ : List ℕ = put s k x in
+      let l : length x ≡ recordSize = length-sheet w n (v + 1) t bw bt (a .fits) in
+      let g : find s′ n ≡ k =
+      find-put s k h x l n (ap (λ (j : ℕ). eqb j n) (num-sheet w n (v + 1) t hn ∙ sym (a .at .number))) ∙ a .at .place in
+      let sk : sound (slot s′ k) ≡ true = sound-back w n (v + 1) t bw bt (a .fits) s k h (a .at .some) hn (omega arith) hv (a .long) in
+      let rk : rev (slot s′ k) ≡ v + 1 = revision-back w n (v + 1) t bw bt (a .fits) s k h hv in
+      let rf : rev (slot s′ (find s′ n)) ≡ rev (slot s′ k) = ap (λ (j : ℕ). rev (slot s′ j)) g in
+      revise-other s′ (size-put s k h x l ∙ a .size) n (a .at .some) o w (a .keys) t′ b (omega (arith, slots-put s k h x l)) v
+      (ap (λ (j : ℕ). sound (slot s′ j)) g ∙ sk) (λ q. let z : ⊥ = omega arith in z)
 
   -- an add accepted and then tried again, with whatever text, finds the sheet there
-  sheet-there : (t′ : List ℕ) → badText t′ ≡ false → addPlan o w s n t ≡ At k → addPlan o w (put s k (sheet w n 1 t)) n t′ ≡ Refuse SheetThere
-  unfolding addPlan
+  sheet-there : (t′ : List ℕ) → badText t′ ≡ false → addPlan o w s n t ≡ At k → addPlan o w (put s k (sheet w n 1 t)) n t′ ≡ Refuse SheetPresent
   sheet-there t′ b e =
-      let p1 = passed _ _ _ k e in
-      let p2 = passed _ _ _ k (p1 .1) in
-      let p3 = passed _ _ _ k (p2 .1) in
-      let p4 = passed _ _ _ k (p3 .1) in
-      let p5 = passed _ _ _ k (p4 .1) in
-      let p6 = passed _ _ _ k (p5 .1) in
-      let f : find s 0 ≡ k = ap slotOf (p6 .1) in
-      let h : k < slots s = omega (arith, there s 0 (p6 .0)) in
-      let a : find s n ≡ slots s = eqb-true (find s n) (slots s) (not-false (absent s n) (p5 .0)) in
+      let a = add-says o w s n t k e in
+      let h : k < slots s = a .within in
       let x : List ℕ = sheet w n 1 t in
-      let ht : length t ≤ 2096 = text-fits t (p4 .0) in
-      let l : length x ≡ 2112 = length-sheet w n 1 t bw bt ht in
-      let g : find (put s k x) n ≡ k =
-      found-there s k h x l n (number-back w n 1 t bw bt ht s k h hn) (λ j q. find-lowest s n j (omega arith)) in
-      no _ _ _ (p1 .0)
-      ∙ no _ _ _ (same-size s k h x l ∙ p2 .0)
-      ∙ no _ _ _ (p3 .0)
-      ∙ no _ _ _ b
-      ∙ yes _ _ _ (ap not (present s k h x l n g))
+      let s′ : List ℕ = put s k x in
+      let l : length x ≡ recordSize = length-sheet w n 1 t bw bt (a .fits) in
+      let g : find s′ n ≡ k =
+      find-is (slots s′) (slot s′) n k (omega (arith, slots-put s k h x l)) (ap num (slot-put s k h x l) ∙ num-sheet w n 1 t hn)
+      (λ j q r. find-lowest (slots s) (slot s) n j (omega (arith, a .new))
+      (sym (ap num (slot-other s k h x l j (λ y. let z : ⊥ = omega arith in z))) ∙ r)) in
+      add-present s′ (size-put s k h x l ∙ a .size) n (a .some) o w (a .keys) t′ b (omega (arith, slots-put s k h x l))
 
 -- ---- an answer that is a revision comes of a plan that ends at a slot
 
@@ -114,19 +66,14 @@ abbrev accepts : Stored → ℕ
 accepts (stored.Revision v) = 1
 accepts (stored.Refused x) = 0
 
-added-at : (p : Plan) (r : ℕ) → addAnswer p ≡ stored.Revision r → p ≡ At (slotOf p)
-added-at (Refuse x) r e =
-    let z : _≡_ {A = ℕ} 0 1 = ap accepts e in
+-- of any answer that refuses where the plan does
+pub accepted-at : (f : Plan → Stored) → ((x : Refusal) → f (Refuse x) ≡ stored.Refused x) → (p : Plan) (r : ℕ) → f p ≡ stored.Revision r
+    → (k : ℕ) × (p ≡ At k)
+accepted-at f h (Refuse x) r e =
+    let z : _≡_ {A = ℕ} 0 1 = ap accepts (sym (h x) ∙ e) in
     let y : ⊥ = omega arith in
     absurd y
-added-at (At k) r e = refl
-
-revised-at : (s : List ℕ) (p : Plan) (r : ℕ) → reviseAnswer s p ≡ stored.Revision r → p ≡ At (slotOf p)
-revised-at s (Refuse x) r e =
-    let z : _≡_ {A = ℕ} 0 1 = ap accepts e in
-    let y : ⊥ = omega arith in
-    absurd y
-revised-at s (At k) r e = refl
+accepted-at f h (At k) r e = (k, refl)
 
 -- ---- a call that was accepted and is made again on the store that it left, with any text of a length that is taken
 
@@ -139,9 +86,10 @@ module _ (o w s : List ℕ) (n : ℕ) (t : List ℕ) (bw : Bytes w) (bs : Bytes 
     pub revise-again : (r : ℕ) → reviseAnswer s (revisePlan o w s n v t) ≡ stored.Revision r
         → reviseAnswer revised (revisePlan o w revised n v t′) ≡ stored.Refused OtherRevision
     revise-again r e =
-        let k : ℕ = slotOf (revisePlan o w s n v t) in
-        let p : revisePlan o w s n v t ≡ At k = revised-at s (revisePlan o w s n v t) r e in
-        let q : v ≡ rev (slot s k) = revise-at o w s n v t k p .2 in
+        let a = accepted-at (reviseAnswer s) (λ x. refl) (revisePlan o w s n v t) r e in
+        let k : ℕ = a .0 in
+        let p : revisePlan o w s n v t ≡ At k = a .1 in
+        let q : v ≡ rev (slot s k) = revise-says o w s n v t k p .seen in
         let left : revised ≡ put s k (sheet w n (v + 1) t) =
         ap (reviseStore w s n t) p ∙ ap (λ (x : ℕ). put s k (sheet w n (x + 1) t)) (sym q) in
         ap (reviseAnswer revised) (ap (λ (x : List ℕ). revisePlan o w x n v t′) left ∙ another-revision o w s n t k bw bs bt hn v t′ g p)
@@ -150,9 +98,8 @@ module _ (o w s : List ℕ) (n : ℕ) (t : List ℕ) (bw : Bytes w) (bs : Bytes 
   abbrev added : List ℕ
   added = addStore w s n t (addPlan o w s n t)
 
-  pub add-again : (r : ℕ) → addAnswer (addPlan o w s n t) ≡ stored.Revision r → addAnswer (addPlan o w added n t′) ≡ stored.Refused SheetThere
+  pub add-again : (r : ℕ) → addAnswer (addPlan o w s n t) ≡ stored.Revision r → addAnswer (addPlan o w added n t′) ≡ stored.Refused SheetPresent
   add-again r e =
-      let k : ℕ = slotOf (addPlan o w s n t) in
-      let p : addPlan o w s n t ≡ At k = added-at (addPlan o w s n t) r e in
-      let left : added ≡ put s k (sheet w n 1 t) = ap (addStore w s n t) p in
-      ap addAnswer (ap (λ (x : List ℕ). addPlan o w x n t′) left ∙ sheet-there o w s n t k bw bs bt hn t′ g p)
+      let a = accepted-at addAnswer (λ x. refl) (addPlan o w s n t) r e in
+      let left : added ≡ put s (a .0) (sheet w n 1 t) = ap (addStore w s n t) (a .1) in
+      ap addAnswer (ap (λ (x : List ℕ). addPlan o w x n t′) left ∙ sheet-there o w s n t (a .0) bw bs bt hn t′ g (a .1))

@@ -1,6 +1,6 @@
 -- The outcomes of a step, from the tests that lead there.
 -- Assumes nothing.
-use mathlib.Core.Path.{_≡_, refl, ap, _∙_}
+use mathlib.Core.Path.{_≡_, refl, sym, ap, _∙_}
 use mathlib.Core.Bool.{Bool, true, false, cond, not}
 use mathlib.Core.List.{List}
 use Prim.Native.Nat.{ℕ, _≤_, _<_}
@@ -8,8 +8,10 @@ use borrow.Author.Tests.{le-leb, lt-leb, eq-eqb, ne-eqb}
 use lib.Dec.{eqb}
 use Rattle.records.specs.Record.{num, mark, sound}
 use Rattle.slots.specs.Slots.{slots, slot}
+use Rattle.store.specs.declared.Outcome.{Outcome}
+use Rattle.store.specs.declared.Stepped.the-variants.{Went}
 use Rattle.store.specs.declared.Outcome.the-variants.{Done, Free, Damaged, Already, Converted}
-use Rattle.store.specs.Calls.{recordOutcome, outcomeAt}
+use Rattle.store.specs.Calls.{recordOutcome, outcomeAt, movedFrom, convertedAt}
 
 pub at-end : (s : List ℕ) (k : ℕ) → slots s ≤ k → outcomeAt s k ≡ Done
 unfolding outcomeAt
@@ -41,3 +43,8 @@ module _ (r : List ℕ) where
 
     pub is-converted : sound r ≡ true → (mark r ≡ 2 → ⊥) → recordOutcome r ≡ Converted
     is-converted e m = from-tests false true false (ne-eqb (num r) 0 u) e (ne-eqb (mark r) 2 m)
+
+-- what a step answers and leaves, once its outcome is known
+pub stepped-as : (o w s : List ℕ) (k : ℕ) (x : Outcome) → outcomeAt s k ≡ x
+    → (Went x (movedFrom k x) ≡ Went (outcomeAt s k) (movedFrom k (outcomeAt s k))) × (convertedAt o w s k x ≡ convertedAt o w s k (outcomeAt s k))
+stepped-as o w s k x e = (sym (ap (λ (y : Outcome). Went y (movedFrom k y)) e), sym (ap (convertedAt o w s k) e))

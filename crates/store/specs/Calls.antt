@@ -8,8 +8,8 @@ use Prim.Native.Nat.{ℕ, _+_}
 use lib.Dec.{eqb, leb}
 use lib.ListN.{length, drop}
 use Rattle.records.specs.Record.{num, rev, mark, len, sound}
-use Rattle.records.specs.Text.{textOf, sheet}
 use Rattle.slots.specs.Slots.{slots, slot, put, emptied}
+use Rattle.sheets.specs.Text.{textOf, sheet}
 use Rattle.plans.specs.declared.Plan.{Plan}
 use Rattle.plans.specs.declared.Plan.the-variants.{Refuse, At}
 use Rattle.plans.specs.Plans.{readPlan, addPlan, revisePlan, removePlan, stepPlan}

@@ -9,9 +9,11 @@ mod stepping;
 // Add, revise and remove.
 mod writing;
 
-use plans::Refusal;
+use numbers::Refusal;
 pub use reading::read;
+pub use reading::read_slot;
 pub use stepping::step_at;
+pub use stepping::step_slot;
 pub use writing::add;
 pub use writing::remove;
 pub use writing::revise;

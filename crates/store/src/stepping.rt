@@ -6,6 +6,7 @@ use super::Stepped;
 use plans::Plan;
 use plans::step_plan;
 use slots::count;
+use slots::record_at;
 
 pub fn step_at(old: &[u8], new: &[u8], store: &mut [u8], place: usize) -> Stepped
     ensures { λ a. ⌜ StepCalled (now (old .entry)) (now (new .entry)) (now (store .entry)) place a (now (store .exit)) ⌝ }
@@ -17,7 +18,7 @@ pub fn step_at(old: &[u8], new: &[u8], store: &mut [u8], place: usize) -> Steppe
 }
 
 // The slot at place k.
-fn step_slot(old: &[u8], new: &[u8], store: &mut [u8], k: usize) -> Stepped
+pub fn step_slot(old: &[u8], new: &[u8], store: &mut [u8], k: usize) -> Stepped
     ensures { λ a. ⌜ (a ≡ Stepped.Went (outcomeAt (now (store .entry)) k) (movedFrom k (outcomeAt (now (store .entry)) k)))
         × (now (store .exit) ≡ convertedAt (now (old .entry)) (now (new .entry)) (now (store .entry)) k (outcomeAt (now (store .entry)) k)) ⌝ }
 {
@@ -27,28 +28,27 @@ fn step_slot(old: &[u8], new: &[u8], store: &mut [u8], k: usize) -> Stepped
             place: k,
         };
     }
-    let at = k * 2112;
-    let end = at + 2112;
     let next = k + 1;
-    if records::number(&store[at..end]) == 0 {
+    let r = record_at(store, k);
+    if records::number(r) == 0 {
         return Stepped::Went {
             outcome: Outcome::Free,
             place: next,
         };
     }
-    if !records::is_sound(&store[at..end]) {
+    if !records::is_sound(r) {
         return Stepped::Went {
             outcome: Outcome::Damaged,
             place: next,
         };
     }
-    if records::mark(&store[at..end]) == 2 {
+    if records::mark(r) == 2 {
         return Stepped::Went {
             outcome: Outcome::Already,
             place: next,
         };
     }
-    slots::rekey_at(store, k, old, new);
+    sheets::rekey_at(store, k, old, new);
     Stepped::Went {
         outcome: Outcome::Converted,
         place: next,

@@ -6,7 +6,7 @@ use plans::Plan;
 use plans::add_plan;
 use plans::remove_plan;
 use plans::revise_plan;
-use slots::put_sheet_at;
+use sheets::put_sheet_at;
 
 // The lowest slot whose sheet number is 0 becomes the sheet at revision 1, under the new key.
 pub fn add(old: &[u8], new: &[u8], store: &mut [u8], sheet: u32, text: &[u8]) -> Stored

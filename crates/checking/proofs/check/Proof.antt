@@ -6,9 +6,10 @@ use mathlib.Core.List.{List}
 use Prim.Native.Nat.{ℕ, _-_, _≤_}
 use native.Mathlib.Omega.{arith}
 use Rattle.slots.specs.Slots.{slots}
-use Rattle.plans.specs.Plans.{badSize}
+use Rattle.slots.specs.Slots.{badSize}
+use Rattle.slots.proofs.SlotLaws.{bad-size-false}
 use Rattle.checking.specs.Check.{used, marked}
-use Rattle.checking.proofs.CheckLaws.{bad-size-false, counted-le, check-refused, check-fault, check-counts, free-count, counts-of}
+use Rattle.checking.proofs.CheckLaws.{counted-le, check-refused, check-fault, check-counts, free-count, counts-of}
 use Rattle.checking.proofs.check.Statement.{statement}
 use Rattle.checking.proofs.check.Tie as tie
 

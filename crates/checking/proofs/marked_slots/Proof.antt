@@ -6,9 +6,9 @@ use mathlib.Core.List.{List}
 use Prim.Native.Nat.{ℕ, _+_, _-_, _≤_}
 use native.Mathlib.Omega.{arith}
 use Rattle.slots.specs.Slots.{slots, tally}
-use Rattle.slots.proofs.FindLaws.{tally-le}
+use Rattle.slots.proofs.FindLaws.{tally-le, tally-start, tally-skip, tally-more}
 use Rattle.checking.specs.Check.{marked}
-use Rattle.checking.proofs.CheckLaws.{passing, tally-start, tally-skip, tally-more, counted-end}
+use Rattle.checking.proofs.CheckLaws.{passing, counted-end}
 use Rattle.checking.proofs.marked_slots.Statement.{statement}
 use Rattle.checking.proofs.marked_slots.Tie as tie
 

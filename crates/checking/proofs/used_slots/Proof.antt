@@ -7,9 +7,9 @@ use Prim.Native.Nat.{ℕ, _+_, _-_, _≤_}
 use native.Mathlib.Omega.{arith}
 use Rattle.records.specs.Record.{num}
 use Rattle.slots.specs.Slots.{slots, slot, tally}
-use Rattle.slots.proofs.FindLaws.{tally-le}
+use Rattle.slots.proofs.FindLaws.{tally-le, tally-start, tally-skip, tally-more}
 use Rattle.checking.specs.Check.{used}
-use Rattle.checking.proofs.CheckLaws.{passing, used-not, used-so, tally-start, tally-skip, tally-more, counted-end}
+use Rattle.checking.proofs.CheckLaws.{passing, used-not, used-so, counted-end}
 use Rattle.checking.proofs.used_slots.Statement.{statement}
 use Rattle.checking.proofs.used_slots.Tie as tie
 

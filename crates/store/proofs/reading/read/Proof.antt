@@ -4,7 +4,9 @@ use mathlib.Core.Path.{_≡_, sym, ap, _∙_}
 use Rattle.plans.specs.declared.Plan.the-variants.{Refuse, At}
 use lib.ListN.{length}
 use Rattle.plans.specs.Plans.{readPlan}
-use Rattle.plans.proofs.PlanLaws.{read-at}
+use Rattle.records.proofs.FieldLaws.{sound-len}
+use Rattle.slots.specs.Slots.{slot}
+use Rattle.plans.proofs.PlanLaws.{used, read-says}
 use Rattle.store.specs.Calls.{readAnswer, readBuffer}
 use borrow.Author.Needs.{needs}
 use Rattle.store.proofs.reading.read.Statement.{statement}
@@ -24,7 +26,8 @@ read-slot-requires c κs =
     let kk = c .before .before in
     let pl = kk .before .before in
     let a = pl .before .before .before .before .before .args in
-    read-at (a .old .now) (a .new .now) (a .store .now) (a .sheet) (length (a .text .now)) (kk .k .given .0 .0) (sym (pl .read-plan .ensures) ∙ kk .k .given .1)
+    let r = read-says (a .old .now) (a .new .now) (a .store .now) (a .sheet) (length (a .text .now)) (kk .k .given .0 .0) (sym (pl .read-plan .ensures) ∙ kk .k .given .1) in
+    (r .at .within, sound-len (slot (a .store .now) (kk .k .given .0 .0)) (r .whole) (used (r .at)) .1, r .room)
 
 returns : tie.Need-returns
 returns c =

@@ -3,7 +3,7 @@
 use mathlib.Core.Path.{_≡_, sym, ap, _∙_}
 use Rattle.plans.specs.declared.Plan.the-variants.{Refuse, At}
 use Rattle.plans.specs.Plans.{addPlan}
-use Rattle.plans.proofs.PlanLaws.{add-at}
+use Rattle.plans.proofs.PlanLaws.{add-says}
 use Rattle.store.specs.Calls.{addAnswer, addStore}
 use borrow.Author.Needs.{needs}
 use Rattle.store.proofs.writing.add.Statement.{statement}
@@ -23,7 +23,8 @@ put-sheet-at-requires c κs =
     let kk = c .before .before in
     let pl = kk .before .before in
     let a = pl .before .before .before .before .before .before .args in
-    add-at (a .old .now) (a .new .now) (a .store .now) (a .sheet) (a .text .now) (kk .k .given .0 .0) (sym (pl .add-plan .ensures) ∙ kk .k .given .1)
+    let r = add-says (a .old .now) (a .new .now) (a .store .now) (a .sheet) (a .text .now) (kk .k .given .0 .0) (sym (pl .add-plan .ensures) ∙ kk .k .given .1) in
+    (r .within, r .fits)
 
 same-length : tie.Need-same-length
 same-length c = search needs

@@ -3,7 +3,7 @@
 use mathlib.Core.Path.{_≡_, sym, ap, _∙_}
 use Rattle.plans.specs.declared.Plan.the-variants.{Refuse, At}
 use Rattle.plans.specs.Plans.{removePlan}
-use Rattle.plans.proofs.PlanLaws.{remove-at}
+use Rattle.plans.proofs.PlanLaws.{remove-says}
 use Rattle.store.specs.Calls.{removeAnswer, removeStore}
 use borrow.Author.Needs.{needs}
 use Rattle.store.proofs.writing.remove.Statement.{statement}
@@ -23,7 +23,7 @@ empty-requires c κs =
     let kk = c .before .before in
     let pl = kk .before .before in
     let a = pl .before .before .before .args in
-    remove-at (a .store .now) (a .sheet) (kk .k .given .0 .0) (sym (pl .remove-plan .ensures) ∙ kk .k .given .1)
+    remove-says (a .store .now) (a .sheet) (kk .k .given .0 .0) (sym (pl .remove-plan .ensures) ∙ kk .k .given .1) .1 .within
 
 same-length : tie.Need-same-length
 same-length c = search needs

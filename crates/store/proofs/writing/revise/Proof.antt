@@ -8,12 +8,12 @@ use native.Mathlib.Omega.{arith}
 use lib.ListN.{length}
 use Rattle.block.specs.Bytes.{Bytes}
 use Rattle.block.proofs.RowLaws.{bytes-row}
-use Rattle.records.specs.Record.{rev}
-use Rattle.records.specs.Text.{sheet}
+use Rattle.records.specs.Record.{recordSize, textMost, rev}
+use Rattle.sheets.specs.Text.{sheet}
 use Rattle.records.proofs.FieldLaws.{rev-bound}
 use Rattle.slots.specs.Slots.{slots, slot, put}
 use Rattle.plans.specs.Plans.{revisePlan}
-use Rattle.plans.proofs.PlanLaws.{revise-at}
+use Rattle.plans.proofs.PlanLaws.{revise-says}
 use Rattle.store.specs.declared.Stored.the-variants.{Revision}
 use Rattle.store.specs.Calls.{reviseAnswer, reviseStore}
 use borrow.Author.Needs.{needs}
@@ -32,12 +32,13 @@ enum-known-k c = search needs
 -- the plan ends at a slot that has the revision seen
 planned : (c : tie.After-k)
     → (c .k .given .0 .0 < slots (c .before .before .before .before .before .before .before .before .args .store .now))
-    × (length (c .before .before .before .before .before .before .before .before .args .text .now) ≤ 2096)
+    × (length (c .before .before .before .before .before .before .before .before .args .text .now) ≤ textMost)
     × (c .before .before .before .before .before .before .before .before .args .seen ≡ rev (slot (c .before .before .before .before .before .before .before .before .args .store .now) (c .k .given .0 .0)))
 planned c =
     let pl = c .before .before in
     let a = pl .before .before .before .before .before .before .args in
-    revise-at (a .old .now) (a .new .now) (a .store .now) (a .sheet) (a .seen) (a .text .now) (c .k .given .0 .0) (sym (pl .revise-plan .ensures) ∙ c .k .given .1)
+    let r = revise-says (a .old .now) (a .new .now) (a .store .now) (a .sheet) (a .seen) (a .text .now) (c .k .given .0 .0) (sym (pl .revise-plan .ensures) ∙ c .k .given .1) in
+    (r .at .within, r .fits, r .seen)
 
 add-v : tie.Need-add-v
 add-v c =
@@ -48,7 +49,7 @@ add-v c =
     let s : List ℕ = a .store .now in
     let bs : Bytes s = record { below = λ i. sk .slice-known .given i .fits } in
     let k : ℕ = kk .k .given .0 .0 in
-    omega (arith, planned kk .2, rev-bound (slot s k) (bytes-row 2112 s k bs))
+    omega (arith, planned kk .2, rev-bound (slot s k) (bytes-row recordSize s k bs))
 
 put-sheet-at-requires : tie.Need-put-sheet-at-requires
 put-sheet-at-requires c κs = let p = planned (c .before .before) in (p .0, p .1)
