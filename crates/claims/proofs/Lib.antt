@@ -17,3 +17,4 @@ pub mod Demand3
 pub mod PlainLaws
 pub mod Operators
 pub mod RemoveAgain
+pub mod Witness
