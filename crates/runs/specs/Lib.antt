@@ -1,0 +1,3 @@
+-- The calls for C one after another.
+pub mod Calls
+pub mod Runs
