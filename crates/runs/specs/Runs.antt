@@ -40,7 +40,7 @@ pub data Run (o w : List ℕ) : State → List Call → List Returned → State 
   a-call : (st : State) (c : Call) (r : Returned) (st′ : State) (cs : List Call) (rs : List Returned) (st″ : State)
       → Joined o w st c r st′ → Run o w st′ cs rs st″ → Run o w st (c ∷ cs) (r ∷ rs) st″
 
--- ---- the check
+-- ---- the check: it changes no store and no place, so it is no call of a run, and is asked of the state before a run and after it
 
 -- what stands behind the six pointers of lagunedo_check
 pub record Six : Type 0 where
