@@ -48,26 +48,29 @@ some-number refusal.LengthChanged = omega arith
 
 -- ---- from what a call gave back to the answer, and to the call from its event
 
-is-accepted : (a : Answer) (x r : ℕ) → revision 0 r ≡ asReturned 0 x a → a ≡ ofStored (Revision r)
+pub is-accepted : (a : Answer) (x r : ℕ) → revision 0 r ≡ asReturned 0 x a → a ≡ ofStored (Revision r)
 is-accepted (ofRead y b) x r e = let z : _≡_ {A = ℕ} 0 1 = cc in let v : ⊥ = omega arith in absurd v
 is-accepted (ofStored (Revision u)) x r e = cc
 is-accepted (ofStored (Refused y)) x r e = let z : 0 ≡ paper y = cc in let v : ⊥ = omega (arith, some-number y) in absurd v
 is-accepted (ofRemoved y) x r e = let z : _≡_ {A = ℕ} 0 1 = cc in let v : ⊥ = omega arith in absurd v
 is-accepted ofStep x r e = let z : _≡_ {A = ℕ} 0 1 = cc in let v : ⊥ = omega arith in absurd v
 
-told-freed : (r : Returned) (n : ℕ) → told r ≡ freed n → r ≡ freed n
+pub told-freed : (r : Returned) (n : ℕ) → told r ≡ freed n → r ≡ freed n
 told-freed (text m b l v) n e = cc
 told-freed (revision m v) n e = cc
 told-freed (freed m) n e = cc
 told-freed (outcome m x) n e = let z : _≡_ {A = ℕ} 0 1 = cc in let v : ⊥ = omega arith in absurd v
 
-is-removal : (c : Call) (n : ℕ) → event c ≡ removing n → c ≡ removes n
+pub is-removal : (c : Call) (n : ℕ) → event c ≡ removing n → c ≡ removes n
 is-removal (reads i b l v) n e = let z : _≡_ {A = ℕ} 0 1 = cc in let y : ⊥ = omega arith in absurd y
 is-removal (adds i t v) n e = let z : _≡_ {A = ℕ} 0 1 = cc in let y : ⊥ = omega arith in absurd y
 is-removal (revises i s t v) n e = let z : _≡_ {A = ℕ} 0 1 = cc in let y : ⊥ = omega arith in absurd y
 is-removal (removes i) n e = cc
 is-removal (steps c x) n e = let z : _≡_ {A = ℕ} 0 1 = cc in let y : ⊥ = omega arith in absurd y
 is-removal (jobSteps c x) n e = let z : _≡_ {A = ℕ} 0 1 = cc in let y : ⊥ = omega arith in absurd y
+
+pub event-at : (cs : List Call) (k : ℕ) → eventAt (events cs) k ≡ event (callAt cs k)
+event-at cs k = List·getD-map event cs k (steps 0 0)
 
 position : (o w : List ℕ) (cs : List Call) (st : State) (k : ℕ)
     → returnedAt (readAll cs (answers o w (events cs) st)) k ≡ readOff (callAt cs k) (answerAt (answers o w (events cs) st) k)
@@ -127,22 +130,19 @@ module _ (o w : List ℕ) (ko : Key o) (kw : Key w) where
       pub as-many-slots : slots (st′ .store) ≡ slots (st .store)
       as-many-slots = ap (λ (x : State). slots (x .store)) (run-is o w st cs rs st′ run .1) ∙ list.as-many-slots o w ko kw st bs passes (events cs) h
 
-      at : (k : ℕ) → told (returnedAt rs k) ≡ readOff (callAt cs k) (answerAt (answers o w (events cs) st) k)
-      at k = sym (List·getD-map told rs k (outcome 0 0)) ∙ ap (λ (l : List Returned). returnedAt l k) as-answered ∙ position o w cs st k
-
-      event-at : (k : ℕ) → eventAt (events cs) k ≡ event (callAt cs k)
-      event-at k = List·getD-map event cs k (steps 0 0)
+      pub returned-at : (k : ℕ) → told (returnedAt rs k) ≡ readOff (callAt cs k) (answerAt (answers o w (events cs) st) k)
+      returned-at k = sym (List·getD-map told rs k (outcome 0 0)) ∙ ap (λ (l : List Returned). returnedAt l k) as-answered ∙ position o w cs st k
 
       accepted : (k n v : ℕ) (t : List ℕ) (x r : ℕ) → callAt cs k ≡ revises n v t x → returnedAt rs k ≡ revision 0 r
           → answerAt (answers o w (events cs) st) k ≡ ofStored (Revision r)
       accepted k n v t x r c e =
           let a : Answer = answerAt (answers o w (events cs) st) k in
-          is-accepted a x r (sym (ap told e) ∙ at k ∙ ap (λ (y : Call). readOff y a) c)
+          is-accepted a x r (sym (ap told e) ∙ returned-at k ∙ ap (λ (y : Call). readOff y a) c)
 
       removed-at : (n k : ℕ) → RemovedAt o w (events cs) st n k → (callAt cs k ≡ removes n) × (returnedAt rs k ≡ freed 0)
       removed-at n k d =
-          let c : callAt cs k ≡ removes n = is-removal (callAt cs k) n (sym (event-at k) ∙ d .0) in
-          (c, told-freed (returnedAt rs k) 0 (at k ∙ ap₂ readOff c (d .1)))
+          let c : callAt cs k ≡ removes n = is-removal (callAt cs k) n (sym (event-at cs k) ∙ d .0) in
+          (c, told-freed (returnedAt rs k) 0 (returned-at k ∙ ap₂ readOff c (d .1)))
 
       -- of two revisions, at positions i and j, that name sheet n at revision v, not both are answered with 0 if no removal of the sheet that stands
       -- between them is, whatever else does
@@ -150,7 +150,7 @@ module _ (o w : List ℕ) (ko : Key o) (kw : Key w) where
           → ((k : ℕ) → i < k → k < j → callAt cs k ≡ removes n → returnedAt rs k ≡ freed 0 → ⊥)
           → (r r′ : ℕ) → returnedAt rs i ≡ revision 0 r → returnedAt rs j ≡ revision 0 r′ → ⊥
       at-most-one n v i j l t t′ x x′ c c′ u r r′ e e′ =
-          list.at-most-one o w ko kw st bs passes (events cs) h n v i j l t t′ (event-at i ∙ ap event c) (event-at j ∙ ap event c′)
+          list.at-most-one o w ko kw st bs passes (events cs) h n v i j l t t′ (event-at cs i ∙ ap event c) (event-at cs j ∙ ap event c′)
           (λ k hi hj d. let y = removed-at n k d in u k hi hj (y .0) (y .1)) r r′ (accepted i n v t x r c e) (accepted j n v t′ x′ r′ c′ e′)
 
     -- A copy that stood at slot 0 after a run has since made as many steps as there are slots, by either call: the check answers 0 with clear and old 0,

@@ -3,3 +3,4 @@ pub mod OneRun
 pub mod Places
 pub mod TheCheck
 pub mod ForC
+pub mod Operators
