@@ -20,7 +20,8 @@ use Rattle.store.specs.declared.Outcome.{Outcome}
 use Rattle.store.specs.declared.Outcome.the-variants as outcome
 use Rattle.store.specs.declared.Stepped.{Stepped}
 use Rattle.store.specs.declared.Stepped.the-variants as stepped
-use Rattle.store.specs.Calls.{readAnswer, readBuffer, addAnswer, addStore, reviseAnswer, reviseStore, removeAnswer, removeStore, stepAnswer, stepStore}
+use Rattle.store.specs.Calls.{readAnswer, readBuffer, addAnswer, addStore, reviseAnswer, reviseStore, removeAnswer, removeStore}
+use Rattle.store.specs.Calls.{stepAnswer, placeAfter, stepStore}
 
 -- ---- check: 0 with the five counts, or 256 with the lowest faulty slot, or 4
 
@@ -60,7 +61,7 @@ newOr x (checked.Fault k) = x
 newOr x (checked.Refused y) = x
 
 -- behind the six pointers stand the fault f and the counts u, r, c, o and w (used, free, clear, old, new)
-abbrev pub CheckedForC : List ℕ → ℕ → ℕ → ℕ → ℕ → ℕ → ℕ → ℕ → ℕ → ℕ → ℕ → ℕ → ℕ → ℕ → Type 0
+abbrev pub CheckedForC : (s : List ℕ) (f u r c o w : ℕ) (n f′ u′ r′ c′ o′ w′ : ℕ) → Type 0
 CheckedForC s f u r c o w n f′ u′ r′ c′ o′ w′ =
     (n ≡ checkNumber (checkAnswer s))
     × (f′ ≡ faultOr f (checkAnswer s))
@@ -90,7 +91,7 @@ abbrev pub seenOr : ℕ → Text → ℕ
 seenOr x (text.Read l v) = v
 seenOr x (text.Refused y) = x
 
-abbrev pub ReadForC : List ℕ → List ℕ → List ℕ → ℕ → List ℕ → ℕ → ℕ → ℕ → List ℕ → ℕ → ℕ → Type 0
+abbrev pub ReadForC : (o w s : List ℕ) (i : ℕ) (b : List ℕ) (l v : ℕ) (n : ℕ) (b′ : List ℕ) (l′ v′ : ℕ) → Type 0
 ReadForC o w s i b l v n b′ l′ v′ =
     (n ≡ readNumber (readAnswer s (readPlan o w s i (length b))))
     × (b′ ≡ readBuffer o w s b (readPlan o w s i (length b)))
@@ -111,7 +112,7 @@ abbrev pub revisionOr : ℕ → Stored → ℕ
 revisionOr x (stored.Revision v) = v
 revisionOr x (stored.Refused y) = x
 
-abbrev pub AddForC : List ℕ → List ℕ → List ℕ → ℕ → List ℕ → ℕ → ℕ → List ℕ → ℕ → Type 0
+abbrev pub AddForC : (o w s : List ℕ) (i : ℕ) (t : List ℕ) (v : ℕ) (n : ℕ) (s′ : List ℕ) (v′ : ℕ) → Type 0
 AddForC o w s i t v n s′ v′ =
     (n ≡ storedNumber (addAnswer (addPlan o w s i t)))
     × (s′ ≡ addStore w s i t (addPlan o w s i t))
@@ -121,7 +122,7 @@ pub add-determined : (o w s : List ℕ) (i : ℕ) (t : List ℕ) (v n m : ℕ) (
     → AddForC o w s i t v n a x → AddForC o w s i t v m b y → (n ≡ m) × (a ≡ b) × (x ≡ y)
 add-determined o w s i t v n m a b x y p q = (p .0 ∙ sym (q .0), p .1 ∙ sym (q .1), p .2 ∙ sym (q .2))
 
-abbrev pub ReviseForC : List ℕ → List ℕ → List ℕ → ℕ → ℕ → List ℕ → ℕ → ℕ → List ℕ → ℕ → Type 0
+abbrev pub ReviseForC : (o w s : List ℕ) (i seen : ℕ) (t : List ℕ) (v : ℕ) (n : ℕ) (s′ : List ℕ) (v′ : ℕ) → Type 0
 ReviseForC o w s i seen t v n s′ v′ =
     (n ≡ storedNumber (reviseAnswer s (revisePlan o w s i seen t)))
     × (s′ ≡ reviseStore w s i t (revisePlan o w s i seen t))
@@ -137,7 +138,7 @@ abbrev pub removedNumber : Removed → ℕ
 removedNumber removed.Done = 0
 removedNumber (removed.Refused x) = paper x
 
-abbrev pub RemoveForC : List ℕ → ℕ → ℕ → List ℕ → Type 0
+abbrev pub RemoveForC : (s : List ℕ) (i : ℕ) (n : ℕ) (s′ : List ℕ) → Type 0
 RemoveForC s i n s′ = (n ≡ removedNumber (removeAnswer (removePlan s i))) × (s′ ≡ removeStore s (removePlan s i))
 
 pub remove-determined : (s : List ℕ) (i n m : ℕ) (a b : List ℕ) → RemoveForC s i n a → RemoveForC s i m b → (n ≡ m) × (a ≡ b)
@@ -156,19 +157,15 @@ abbrev pub stepNumber : Stepped → ℕ
 stepNumber (stepped.Went x k) = 0
 stepNumber (stepped.Refused y) = paper y
 
-abbrev pub placeOr : ℕ → Stepped → ℕ
-placeOr p (stepped.Went x k) = k
-placeOr p (stepped.Refused y) = p
-
 abbrev pub outcomeOr : ℕ → Stepped → ℕ
 outcomeOr c (stepped.Went x k) = outcomeNumber x
 outcomeOr c (stepped.Refused y) = c
 
-abbrev pub StepForC : List ℕ → List ℕ → List ℕ → ℕ → ℕ → ℕ → List ℕ → ℕ → ℕ → Type 0
+abbrev pub StepForC : (o w s : List ℕ) (k c : ℕ) (n : ℕ) (s′ : List ℕ) (k′ c′ : ℕ) → Type 0
 StepForC o w s k c n s′ k′ c′ =
     (n ≡ stepNumber (stepAnswer s (stepPlan o w s k)))
     × (s′ ≡ stepStore o w s (stepPlan o w s k))
-    × (k′ ≡ placeOr k (stepAnswer s (stepPlan o w s k)))
+    × (k′ ≡ placeAfter k (stepAnswer s (stepPlan o w s k)))
     × (c′ ≡ outcomeOr c (stepAnswer s (stepPlan o w s k)))
 
 pub step-determined : (o w s : List ℕ) (k c n m : ℕ) (a b : List ℕ) (x y x′ y′ : ℕ)

@@ -7,7 +7,8 @@ use mathlib.Core.List.{List}
 use Prim.Native.Nat.{ℕ, _<_}
 use Rattle.block.specs.Bytes.{Bytes}
 use Rattle.slots.specs.Slots.{slots}
-use Rattle.plans.specs.Plans.{badKeys}
+use Rattle.plans.specs.declared.Plan.the-variants.{At}
+use Rattle.plans.specs.Plans.{badKeys, stepPlan}
 use Rattle.store.specs.declared.Stored.the-variants.{Revision}
 use Rattle.claims.specs.View.{plain}
 use Rattle.claims.specs.Machine.{Event, revising, AllAllowed, ofStored, State, storeStep, answers, final, listAnswers, listFinal}
@@ -17,7 +18,7 @@ use Rattle.claims.proofs.KeyLengths.{keys-taken}
 use Rattle.claims.proofs.Traces.{same-answers, same-list, slots-stay}
 use Rattle.claims.proofs.Checking.{passes-sound, passes-apart, good-passes}
 use Rattle.claims.proofs.StaysChecked.{stays-apart}
-use Rattle.claims.proofs.LastSlot.{last-slot}
+use Rattle.claims.proofs.LastSlot.{step-taken, last-slot}
 use Rattle.claims.proofs.OneOfTwo.{one-of-two}
 use Rattle.claims.proofs.StepRule.{keeps-others}
 use Rattle.claims.proofs.Idle.{first-only-fails, every-slot-fails}
@@ -47,6 +48,9 @@ module _ (o w : List ℕ) (ko : Key o) (kw : Key w) where
     pub as-many-slots : slots (final o w es st .store) ≡ slots (st .store)
     as-many-slots = slots-stay o w keys (ko .0) (kw .0) es st h whole
 
+    pub still-bytes : Bytes (final o w es st .store)
+    still-bytes = same-list o w keys (ko .0) (kw .0) es st h whole .1 .bytes
+
     -- of two revisions, at positions i and j, that name sheet n at revision v, not both are accepted if no accepted removal of the sheet stands
     -- between them, whatever else does
     pub at-most-one : (n v i j : ℕ) → i < j → (t t′ : List ℕ) → eventAt es i ≡ revising n v t → eventAt es j ≡ revising n v t′
@@ -57,6 +61,10 @@ module _ (o w : List ℕ) (ko : Key o) (kw : Key w) where
   -- once a copy begun at slot 0 has made as many steps as there are slots, no sheet is marked clear or old key, and none ever is again
   pub no-sheet-left : LastSlotClaim o w (storeStep o w)
   no-sheet-left = last-slot o w keys (ko .0) (kw .0)
+
+  -- from a store that passes the check no step is refused, wherever it stands
+  pub no-step-refused : (s : List ℕ) → Bytes s → Passes s → (k : ℕ) → stepPlan o w s k ≡ At k
+  no-step-refused s bs ok k = step-taken o w s k keys (passes-sound s bs ok .size)
 
   -- a step keeps every byte of the other slots
   pub others-kept : KeepsOthers (storeStep o w)

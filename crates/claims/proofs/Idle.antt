@@ -16,9 +16,9 @@ use Rattle.plans.specs.declared.Plan.{Plan}
 use Rattle.plans.specs.Plans.{badKeys, stepPlan}
 use Rattle.checking.specs.Check.{marked}
 use Rattle.store.specs.declared.Outcome.the-variants.{Converted}
-use Rattle.store.specs.Calls.{outcomeAt, movedFrom, convertedAt, stepAnswer, stepStore}
+use Rattle.store.specs.Calls.{outcomeAt, movedFrom, convertedAt, stepAnswer, placeAfter, stepStore}
 use Rattle.store.proofs.StepLaws.{inside, is-converted}
-use Rattle.claims.specs.Machine.{stepping, State, storeStep, placeAfter}
+use Rattle.claims.specs.Machine.{stepping, State, storeStep}
 use Rattle.claims.specs.Claims.{LastSlotClaim, KeepsOthers, onlyTheFirst, firstSlots, everySlot}
 use Rattle.claims.proofs.Simulation.{SoundStore}
 use Rattle.claims.proofs.Keeping.{slots-put, slot-put}

@@ -20,8 +20,8 @@ use Rattle.plans.proofs.PlanLaws.{no, remove-at}
 use Rattle.checking.specs.Check.{marked}
 use Rattle.store.specs.declared.Outcome.{Outcome}
 use Rattle.store.specs.declared.Outcome.the-variants.{Done, Free, Damaged, Already, Converted}
-use Rattle.store.specs.Calls.{addStore, reviseStore, removeStore, recordOutcome, outcomeAt, movedFrom, convertedAt, stepAnswer, stepStore}
-use Rattle.claims.specs.Machine.{Event, reading, adding, revising, removing, stepping, AllAllowed, State, storeStep, placeAfter, moved, next, final}
+use Rattle.store.specs.Calls.{addStore, reviseStore, removeStore, recordOutcome, outcomeAt, movedFrom, convertedAt, stepAnswer, placeAfter, stepStore}
+use Rattle.claims.specs.Machine.{Event, reading, adding, revising, removing, stepping, AllAllowed, State, storeStep, moved, next, final}
 use Rattle.claims.specs.Claims.{NoneLeft, stepsOf, LastSlotClaim}
 use Rattle.claims.proofs.ViewLaws.{slot-other}
 use Rattle.claims.proofs.Simulation.{SoundStore}

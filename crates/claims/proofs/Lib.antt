@@ -14,3 +14,7 @@ pub mod TwoClear
 pub mod Idle
 pub mod KeyLengths
 pub mod Demand3
+pub mod PlainLaws
+pub mod Operators
+pub mod RemoveAgain
+pub mod Witness

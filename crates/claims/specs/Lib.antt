@@ -3,3 +3,4 @@ pub mod Plain
 pub mod View
 pub mod Machine
 pub mod Claims
+pub mod Operators

@@ -11,9 +11,8 @@ use Rattle.plans.specs.Plans.{readPlan, addPlan, revisePlan, removePlan, stepPl
 use Rattle.store.specs.declared.Text.{Text}
 use Rattle.store.specs.declared.Stored.{Stored}
 use Rattle.store.specs.declared.Removed.{Removed}
-use Rattle.store.specs.declared.Stepped.{Stepped}
-use Rattle.store.specs.declared.Stepped.the-variants.{Went, Refused}
-use Rattle.store.specs.Calls.{readAnswer, readBuffer, addAnswer, addStore, reviseAnswer, reviseStore, removeAnswer, removeStore, stepAnswer, stepStore}
+use Rattle.store.specs.Calls.{readAnswer, readBuffer, addAnswer, addStore, reviseAnswer, reviseStore, removeAnswer, removeStore}
+use Rattle.store.specs.Calls.{stepAnswer, placeAfter, stepStore}
 use Rattle.claims.specs.Plain.{Place, readIn, addIn, reviseIn, removeIn, readText, readInto, added, afterAdd, revised, afterRevise, gone, afterRemove}
 
 -- read sheet n into the buffer b; add sheet n with text t; revise sheet n, seen at revision v, with text t; remove sheet n; a step of copy c
@@ -53,11 +52,6 @@ pub record State : Type 0 where
 pub record Step : Type 0 where
   pub leaves : List ℕ → ℕ → List ℕ
   pub goesTo : List ℕ → ℕ → ℕ
-
--- a refused step leaves the place where it was
-abbrev pub placeAfter : ℕ → Stepped → ℕ
-placeAfter k (Went x j) = j
-placeAfter k (Refused y) = k
 
 -- the step of 01, as the call answers and leaves it
 abbrev pub storeStep : List ℕ → List ℕ → Step

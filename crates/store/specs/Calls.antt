@@ -123,6 +123,11 @@ abbrev pub stepAnswer : List ℕ → Plan → Stepped
 stepAnswer s (Refuse x) = stepped.Refused x
 stepAnswer s (At k) = stepped.Went (outcomeAt s k) (movedFrom k (outcomeAt s k))
 
+-- the job's place after a step: a refused one leaves it where it was
+abbrev pub placeAfter : ℕ → Stepped → ℕ
+placeAfter k (stepped.Went x j) = j
+placeAfter k (stepped.Refused y) = k
+
 abbrev pub stepStore : List ℕ → List ℕ → List ℕ → Plan → List ℕ
 stepStore o w s (Refuse x) = s
 stepStore o w s (At k) = convertedAt o w s k (outcomeAt s k)

@@ -1,7 +1,8 @@
 -- `answers::step` meets its contract: the store's answer, read off as numbers.
 -- Assumes nothing.
 use mathlib.Core.Path.{sym, ap, _∙_}
-use Rattle.answers.specs.Sheets.{stepNumber, placeOr, outcomeOr}
+use Rattle.store.specs.Calls.{placeAfter}
+use Rattle.answers.specs.Sheets.{stepNumber, outcomeOr}
 use borrow.Author.Needs.{needs}
 use Rattle.answers.proofs.step.Statement.{statement}
 use Rattle.answers.proofs.step.Tie as tie
@@ -29,7 +30,7 @@ returns c =
     let st = c .before .before .before .before .before .before in
     let a = st .before .before .before .before .before .args in
     let e = sym (st .step-at .ensures .0) ∙ c .before .before .x .given .1 in
-    (c .number .ensures ∙ sym (ap stepNumber e), st .step-at .ensures .1, sym (ap (placeOr (a .place)) e), sym (ap (outcomeOr (a .outcome)) e))
+    (c .number .ensures ∙ sym (ap stepNumber e), st .step-at .ensures .1, sym (ap (placeAfter (a .place)) e), sym (ap (outcomeOr (a .outcome)) e))
 
 same-length-2 : tie.Need-same-length-2
 same-length-2 c = search needs
@@ -39,7 +40,7 @@ returns-2 c =
     let st = c .before .before .before .before .before .before in
     let a = st .before .before .before .before .before .args in
     let e = sym (st .step-at .ensures .0) ∙ c .before .before .o .given .1 in
-    (sym (ap stepNumber e), st .step-at .ensures .1, sym (ap (placeOr (a .place)) e), c .outcome-number .ensures ∙ sym (ap (outcomeOr (a .outcome)) e))
+    (sym (ap stepNumber e), st .step-at .ensures .1, sym (ap (placeAfter (a .place)) e), c .outcome-number .ensures ∙ sym (ap (outcomeOr (a .outcome)) e))
 
 pub step-spec : {M : Type 1} → statement M
 step-spec =
