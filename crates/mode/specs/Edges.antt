@@ -21,21 +21,21 @@ abbrev pub parts : ℕ → List ℕ
 unfolding blocks
 parts n = map length (blocks (full (replicate n 0)) (replicate n 0)) ++ shortLength (rest (replicate n 0))
 
--- CCC2 and on, of blocks that stand for the PPPs, over a permutation that gives no bytes. Xor keeps the left length, so CCCi is empty where
--- block i begins a new mask (f(..) xor M1) and as long as PPPi elsewhere (PPPi xor M)
-abbrev pub without : List (List ℕ) → List ℕ → List (List ℕ)
-without [] short = []
-without (PPP1 ∷ PPPs) short = CCCs (λ b. []) (replicate 16 0) PPP1 PPPs short
+-- the wide block's CCC2 and on, of blocks that stand for the PPPs, over an f that gives no bytes. Xor keeps the left length, so CCCi is empty
+-- where block i begins a new mask, f(..) xor M1, and elsewhere as long as PPPi, PPPi xor M
+abbrev pub cccsOf : List (List ℕ) → List ℕ → List (List ℕ)
+cccsOf [] short = []
+cccsOf (PPP1 ∷ PPPs) short = CCCs (λ b. []) (replicate 16 0) PPP1 PPPs short
 
--- the numbers of the empty blocks, from number i on
+-- the numbers of those that are empty, where the first is number i
 abbrev pub empties : ℕ → List (List ℕ) → List ℕ
 empties i [] = []
-empties i ([] ∷ CCCs) = i ∷ empties (suc i) CCCs
-empties i ((x ∷ CCC) ∷ CCCs) = empties (suc i) CCCs
+empties i ([] ∷ Xs) = i ∷ empties (suc i) Xs
+empties i ((x ∷ X) ∷ Xs) = empties (suc i) Xs
 
--- the blocks of n bytes that begin a new mask
+-- the blocks that begin a new mask, of n bytes split as the wide block splits its message
 abbrev pub masksOf : ℕ → List ℕ
-masksOf n = empties 2 (without (blocks (full (replicate n 0)) (replicate n 0)) (rest (replicate n 0)))
+masksOf n = empties 2 (cccsOf (blocks (full (replicate n 0)) (replicate n 0)) (rest (replicate n 0)))
 
 -- the table: one row for each of 01's
 pub record Edges : Type 0 where

@@ -72,7 +72,7 @@ module _ (f : List ℕ → List ℕ) where
   -- steps 41 to 45, the second pass: Ci = f(CCCi) xor 2^(i-1)·L
   unfoldable pub leave : List ℕ → List (List ℕ) → List (List ℕ)
   leave L [] = []
-  leave L (CCC ∷ CCCs) = (f CCC ⊕ L) ∷ leave (double L) CCCs
+  leave L (CCC ∷ Xs) = (f CCC ⊕ L) ∷ leave (double L) Xs
 
   -- steps 18 to 45, of the PPPs and the short block
   unfoldable pub wideOn : List ℕ → List ℕ → List (List ℕ) → List ℕ → List ℕ

@@ -1,4 +1,4 @@
--- The mixing as the code makes it: running sums, one block after the other, and the short block byte by byte.
+-- The mixing as the code makes it: running sums, and one block after the other.
 -- Assumes nothing.
 use mathlib.Core.Path.{_≡_, ap, ap₂, _∙_}
 use mathlib.Core.Bool.{Bool, true, false, cond}
