@@ -1,4 +1,4 @@
--- The wide block keeps the message's length, and its result is bytes: each step keeps the number of blocks, and a block a block.
+-- The wide block keeps the message's length, and its result is bytes: every step keeps how many blocks there are, and makes blocks of blocks.
 -- Assumes nothing.
 use mathlib.Core.Path.{_≡_, refl, ap, _∙_}
 use mathlib.Core.List.{List, [], _∷_}

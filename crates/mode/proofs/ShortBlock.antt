@@ -1,4 +1,4 @@
--- The short last block: whether there is one, by how many bytes it has; and Cm, which is as long and as short.
+-- The short last block: whether there is one goes by how many bytes it has, and Cm has as many. By cases on those bytes.
 -- Assumes nothing.
 use mathlib.Core.Path.{_≡_, refl}
 use mathlib.Core.Bool.{true, false}
