@@ -1,4 +1,4 @@
--- The wide block keeps the message's length, and its result is bytes; T_star is a block.
+-- The wide block keeps the message's length, and its result is bytes: every step keeps how many blocks there are, and makes blocks of blocks.
 -- Assumes nothing.
 use mathlib.Core.Path.{_≡_, refl, ap, _∙_}
 use mathlib.Core.List.{List, [], _∷_}
@@ -13,8 +13,9 @@ use Rattle.block.proofs.BytesLaws.{bytes-append, bytes-drop, bytes-zeros}
 use Rattle.block.proofs.BlockLaws.{length-rest, length-join}
 use Rattle.mode.specs.Permutation.{Undoes}
 use Rattle.mode.specs.Wide.{enter, leave, middle, Cm, CCCs, CCC1, wideOn, wide}
+use Rattle.mode.proofs.ShortBlock.{length-Cm}
 use Rattle.mode.proofs.Totals.{AllBlocks}
-use Rattle.mode.proofs.Undo.{all-sized, all-blocks, length-blocks, block-enter, block-leave, block-CCC1, block-CCCs, length-Cm, bytes-Cm}
+use Rattle.mode.proofs.Undo.{all-sized, all-blocks, length-blocks, block-enter, block-leave, block-CCC1, block-CCCs, bytes-Cm}
 
 pub length-enter : (f : List ℕ → List ℕ) (L : List ℕ) (Ps : List (List ℕ)) → length (enter f L Ps) ≡ length Ps
 unfolding enter
@@ -49,7 +50,7 @@ module _ (f g : List ℕ → List ℕ) (u : Undoes f g) {L T : List ℕ} (hL : B
       let hC : AllBlocks C = block-leave f g u hL Y hY in
       let n : length (CCCs f T X1 Xs s) ≡ length Xs = length-middle f _ 2 _ Xs in (
         length-append (join C) (Cm f T X1 Xs s)
-            ∙ omega (arith, length-join C (all-sized C hC), length-leave f L Y, n, length-Cm f g u hT (k .0) Xs (k .1) s ls bs),
+            ∙ omega (arith, length-join C (all-sized C hC), length-leave f L Y, n, length-Cm f T X1 Xs s),
         bytes-append (join C) (Cm f T X1 Xs s) (bytes-joined C hC) (bytes-Cm f g u hT (k .0) Xs (k .1) s ls bs),
       )
 

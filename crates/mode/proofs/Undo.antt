@@ -7,7 +7,7 @@ use mathlib.Core.List.{List, [], _∷_, _++_}
 use Prim.Native.Nat.{ℕ, zero, suc, _*_, _≤_, _<_}
 use native.Mathlib.Nat.{not-suc-le-zero}
 use native.Mathlib.Omega.{arith}
-use lib.ListN.{length, drop, length-drop}
+use lib.ListN.{length, take, drop, length-drop}
 use lib.Seq.{length-take-le}
 use Rattle.block.specs.Xor.{_⊕_}
 use Rattle.block.specs.Bytes.{Bytes, Block}
@@ -17,8 +17,9 @@ use Rattle.block.proofs.BytesLaws.{bytes-take, bytes-drop}
 use Rattle.block.proofs.BlockLaws.{Sized, blocks-of, rest-join, join-blocks, length-rest}
 use Rattle.block.proofs.XorLaws.{length-⊕, ⊕-undo, ⊕-comm, bytes-⊕, block-⊕}
 use Rattle.block.proofs.DoubleLaws.{block-double, block-pad}
-use Rattle.mode.specs.Wide.{enter, leave, begins, mask, cccOf, middle, total, padded, MP, MC1, mm, mc1, m1, Cm, CCCs, CCC1, wideOn, wide}
+use Rattle.mode.specs.Wide.{enter, leave, begins, mask, cccOf, middle, total, padded, isShort, MP, MM, MC1, M1, Cm, CCCs, CCC1, wideOn, wide}
 use Rattle.mode.specs.Permutation.{Undoes}
+use Rattle.mode.proofs.ShortBlock.{short-⊕, length-Cm}
 use Rattle.mode.proofs.Totals.{AllBlocks, all-append, block-total, total-undo}
 
 -- around L, and back
@@ -36,7 +37,8 @@ pub all-blocks : (n : ℕ) (l : List ℕ) → 16 * n ≤ length l → Bytes l �
 unfolding blocks
 all-blocks zero l h b = tt
 all-blocks (suc n) l h b =
-    (record { size = length-take-le 16 l (omega arith); bytes = bytes-take 16 l b }, all-blocks n (drop 16 l) (omega (arith, length-drop 16 l)) (bytes-drop 16 l b))
+    let h1 : Block (take 16 l) = record { size = length-take-le 16 l (omega arith); bytes = bytes-take 16 l b } in
+    (h1, all-blocks n (drop 16 l) (omega (arith, length-drop 16 l)) (bytes-drop 16 l b))
 
 pub length-blocks : (n : ℕ) (l : List ℕ) → length (blocks n l) ≡ n
 unfolding blocks
@@ -125,81 +127,74 @@ module _ (f g : List ℕ → List ℕ) (u : Undoes f g) where
 
   -- ---- the whole mixing, of full blocks X1 ∷ Xs and a short one s (empty where there is none)
 
-  -- MC1 and MP change places, and the short block comes back, where the permutation does
-  ends : (s : List ℕ) {P : List ℕ} → Block P → (MC1 g (s ⊕ f P) (g (MC1 f s (f P))) ≡ P) × (s ⊕ f P ⊕ g (MC1 f s (f P)) ≡ s)
-  unfolding MC1 _⊕_
-  ends [] hP = (u .back hP, refl)
-  ends (x ∷ s) {P} hP = (
-    some-short ((x ∷ s) ⊕ f P) (g (f (f P))) (omega (arith, length-⊕ (x ∷ s) (f P))) ∙ ap g (u .back (u .keeps hP)) ∙ u .back hP,
-    ap (λ (z : List ℕ). (x ∷ s) ⊕ f P ⊕ z) (u .back (u .keeps hP)) ∙ ⊕-undo (x ∷ s) (f P),
-  )
-    where
-      some-short : (t y : List ℕ) → 0 < length t → MC1 g t y ≡ g y
-      some-short [] y h = absurd (not-suc-le-zero h)
-      some-short (a ∷ t) y h = refl
+  block-MC1 : (t : Bool) {P : List ℕ} → Block P → Block (cond t (f (f P)) (f P))
+  block-MC1 true h = u .keeps (u .keeps h)
+  block-MC1 false h = u .keeps h
 
-  block-MC1 : (s : List ℕ) {Y : List ℕ} → Block Y → Block (MC1 f s Y)
-  unfolding MC1
-  block-MC1 [] h = h
-  block-MC1 (x ∷ s) h = u .keeps h
+  -- MC1 is taken back to MP, and the short block comes back
+  MC1-undone : (t : Bool) {P : List ℕ} → Block P → cond t (g (g (cond t (f (f P)) (f P)))) (g (cond t (f (f P)) (f P))) ≡ P
+  MC1-undone true h = ap g (u .back (u .keeps h)) ∙ u .back h
+  MC1-undone false h = u .back h
+
+  Cm-undone : (s : List ℕ) {P : List ℕ} → Block P → s ⊕ f P ⊕ g (cond (isShort s) (f (f P)) (f P)) ≡ s
+  unfolding _⊕_
+  Cm-undone [] h = refl
+  Cm-undone (x ∷ s) {P} h = ap (λ (z : List ℕ). (x ∷ s) ⊕ f P ⊕ z) (u .back (u .keeps h)) ∙ ⊕-undo (x ∷ s) (f P)
 
   module _ {T X1 : List ℕ} (hT : Block T) (hX1 : Block X1) (Xs : List (List ℕ)) (hXs : AllBlocks Xs) (s : List ℕ) (ls : length s < 16) (bs : Bytes s) where
-    hP : Block (MP T X1 Xs s)
+    hP : Block (MP f T X1 Xs s)
     unfolding MP
     hP = block-⊕ (block-total (Xs ++ padded s) hX1 (all-append Xs (padded s) hXs (block-padded s ls bs))) hT
 
-    hC : Block (mc1 f T X1 Xs s)
-    hC = block-MC1 s (u .keeps hP)
+    hC : Block (MC1 f T X1 Xs s)
+    hC = block-MC1 (isShort s) hP
 
-    hM : Block (m1 f T X1 Xs s)
+    hM : Block (M1 f T X1 Xs s)
     hM = block-⊕ hP hC
 
     pub block-CCCs : AllBlocks (CCCs f T X1 Xs s)
     unfolding CCCs
     block-CCCs = block-middle hM 2 hM Xs hXs
 
-    pub length-Cm : length (Cm f T X1 Xs s) ≡ length s
-    unfolding Cm
-    length-Cm = length-⊕ s (mm f T X1 Xs s)
-
     pub bytes-Cm : Bytes (Cm f T X1 Xs s)
     unfolding Cm
-    bytes-Cm = bytes-⊕ s (mm f T X1 Xs s) bs (u .keeps hP .bytes)
+    bytes-Cm = bytes-⊕ s (MM f T X1 Xs s) bs (u .keeps hP .bytes)
 
     all-out : AllBlocks (CCCs f T X1 Xs s ++ padded (Cm f T X1 Xs s))
-    all-out = all-append (CCCs f T X1 Xs s) (padded (Cm f T X1 Xs s)) block-CCCs (block-padded (Cm f T X1 Xs s) (omega (arith, length-Cm)) bytes-Cm)
+    all-out = all-append (CCCs f T X1 Xs s) (padded (Cm f T X1 Xs s)) block-CCCs (block-padded (Cm f T X1 Xs s) (omega (arith, length-Cm f T X1 Xs s)) bytes-Cm)
 
     pub block-CCC1 : Block (CCC1 f T X1 Xs s)
     unfolding CCC1
     block-CCC1 = block-⊕ (block-total (CCCs f T X1 Xs s ++ padded (Cm f T X1 Xs s)) hC all-out) hT
 
     -- backwards MP is MC1
-    MP-back : MP T (CCC1 f T X1 Xs s) (CCCs f T X1 Xs s) (Cm f T X1 Xs s) ≡ mc1 f T X1 Xs s
+    MP-back : MP g T (CCC1 f T X1 Xs s) (CCCs f T X1 Xs s) (Cm f T X1 Xs s) ≡ MC1 f T X1 Xs s
     unfolding MP CCC1
     MP-back = total-undo (CCCs f T X1 Xs s ++ padded (Cm f T X1 Xs s)) hC hT all-out
 
     -- MC1 is MP
-    MC1-back : mc1 g T (CCC1 f T X1 Xs s) (CCCs f T X1 Xs s) (Cm f T X1 Xs s) ≡ MP T X1 Xs s
+    MC1-back : MC1 g T (CCC1 f T X1 Xs s) (CCCs f T X1 Xs s) (Cm f T X1 Xs s) ≡ MP f T X1 Xs s
     unfolding Cm
-    MC1-back = ap (λ (m : List ℕ). MC1 g (Cm f T X1 Xs s) (g m)) MP-back ∙ ends s hP .0
+    MC1-back =
+        ap₂ (λ (t : Bool) (m : List ℕ). cond t (g (g m)) (g m)) (short-⊕ s (MM f T X1 Xs s)) MP-back ∙ MC1-undone (isShort s) hP
 
     -- so that M1 is the same
-    m1-back : m1 g T (CCC1 f T X1 Xs s) (CCCs f T X1 Xs s) (Cm f T X1 Xs s) ≡ m1 f T X1 Xs s
-    m1-back = ap₂ (λ (a b : List ℕ). a ⊕ b) MP-back MC1-back ∙ ⊕-comm (mc1 f T X1 Xs s) (MP T X1 Xs s) (hC .size ∙ sym (hP .size))
+    M1-back : M1 g T (CCC1 f T X1 Xs s) (CCCs f T X1 Xs s) (Cm f T X1 Xs s) ≡ M1 f T X1 Xs s
+    M1-back = ap₂ (λ (a b : List ℕ). a ⊕ b) MP-back MC1-back ∙ ⊕-comm (MC1 f T X1 Xs s) (MP f T X1 Xs s) (hC .size ∙ sym (hP .size))
 
-    pub CCCs-back : CCCs g T (CCC1 f T X1 Xs s) (CCCs f T X1 Xs s) (Cm f T X1 Xs s) ≡ Xs
+    CCCs-back : CCCs g T (CCC1 f T X1 Xs s) (CCCs f T X1 Xs s) (Cm f T X1 Xs s) ≡ Xs
     unfolding CCCs
-    CCCs-back = ap (λ (m : List ℕ). middle g m 2 m (CCCs f T X1 Xs s)) m1-back ∙ middle-undone hM 2 (m1 f T X1 Xs s) Xs hXs
+    CCCs-back = ap (λ (m : List ℕ). middle g m 2 m (CCCs f T X1 Xs s)) M1-back ∙ middle-undone hM 2 (M1 f T X1 Xs s) Xs hXs
 
-    pub Cm-back : Cm g T (CCC1 f T X1 Xs s) (CCCs f T X1 Xs s) (Cm f T X1 Xs s) ≡ s
+    Cm-back : Cm g T (CCC1 f T X1 Xs s) (CCCs f T X1 Xs s) (Cm f T X1 Xs s) ≡ s
     unfolding Cm
-    Cm-back = ap (λ (m : List ℕ). Cm f T X1 Xs s ⊕ g m) MP-back ∙ ends s hP .1
+    Cm-back = ap (λ (m : List ℕ). Cm f T X1 Xs s ⊕ g m) MP-back ∙ Cm-undone s hP
 
-    pub CCC1-back : CCC1 g T (CCC1 f T X1 Xs s) (CCCs f T X1 Xs s) (Cm f T X1 Xs s) ≡ X1
+    CCC1-back : CCC1 g T (CCC1 f T X1 Xs s) (CCCs f T X1 Xs s) (Cm f T X1 Xs s) ≡ X1
     unfolding CCC1 MP
     CCC1-back =
         ap₂ (λ (a : List ℕ) (b : List (List ℕ)). total a (b ++ padded (Cm g T (CCC1 f T X1 Xs s) (CCCs f T X1 Xs s) (Cm f T X1 Xs s))) ⊕ T) MC1-back CCCs-back
-        ∙ ap (λ (c : List ℕ). total (MP T X1 Xs s) (Xs ++ padded c) ⊕ T) Cm-back
+        ∙ ap (λ (c : List ℕ). total (MP f T X1 Xs s) (Xs ++ padded c) ⊕ T) Cm-back
         ∙ total-undo (Xs ++ padded s) hX1 hT (all-append Xs (padded s) hXs (block-padded s ls bs))
 
   -- ---- the whole message
@@ -221,7 +216,7 @@ module _ (f g : List ℕ → List ℕ) (u : Undoes f g) where
         let hY : AllBlocks (Y1 ∷ Ys) = (block-CCC1 hT hX1 Xs hXs s ls bs, block-CCCs hT hX1 Xs hXs s ls bs) in
         let C : List (List ℕ) = leave f L (Y1 ∷ Ys) in
         let hC : Sized C = all-sized C (block-leave hL (Y1 ∷ Ys) hY) in
-        let ls′ : length s′ < 16 = omega (arith, length-Cm hT hX1 Xs hXs s ls bs) in
+        let ls′ : length s′ < 16 = omega (arith, length-Cm f T X1 Xs s) in
         ap₂ (λ (bs : List (List ℕ)) (t : List ℕ). wideOn g L T (enter g L bs) t)
         (blocks-of C s′ hC ls′)
         (rest-join C s′ hC ls′)

@@ -1,15 +1,15 @@
 -- 01, both sides of each edge: D1 to D12, over the definitions, as one table.
 -- Assumes nothing.
 use mathlib.Core.Path.{_≡_, refl}
-use mathlib.Core.Bool.{cond}
 use mathlib.Core.List.{List, [], _∷_, _++_, map}
-use Prim.Native.Nat.{ℕ, zero, suc, _-_}
+use Prim.Native.Nat.{ℕ, suc}
 use lib.ListN.{length, replicate}
+use Rattle.block.specs.Xor.{_⊕_}
 use Rattle.block.specs.Blocks.{full, rest, blocks}
 use Rattle.block.specs.Double.{double, pad}
 use Rattle.sbox.specs.Sub.{sub}
 use Rattle.sbox.specs.Examples.{D12}
-use Rattle.mode.specs.Wide.{begins}
+use Rattle.mode.specs.Wide.{total, padded, middle, MP, CCCs}
 
 -- the length of a short last block, if there is one
 abbrev pub shortLength : List ℕ → List ℕ
@@ -21,13 +21,21 @@ abbrev pub parts : ℕ → List ℕ
 unfolding blocks
 parts n = map length (blocks (full (replicate n 0)) (replicate n 0)) ++ shortLength (rest (replicate n 0))
 
--- those of the blocks i to i + n - 1 that begin a new mask, and those of n bytes after the first block: full blocks alone
-abbrev pub newMasks : ℕ → ℕ → List ℕ
-newMasks i zero = []
-newMasks i (suc n) = cond (begins i) (i ∷ newMasks (suc i) n) (newMasks (suc i) n)
+-- the wide block's CCC2 and on, of blocks that stand for the PPPs, over an f that gives no bytes. Xor keeps the left length, so CCCi is empty
+-- where block i begins a new mask, f(..) xor M1, and elsewhere as long as PPPi, PPPi xor M
+abbrev pub cccsOf : List (List ℕ) → List ℕ → List (List ℕ)
+cccsOf [] short = []
+cccsOf (PPP1 ∷ PPPs) short = CCCs (λ b. []) (replicate 16 0) PPP1 PPPs short
 
+-- the numbers of those that are empty, where the first is number i
+abbrev pub empties : ℕ → List (List ℕ) → List ℕ
+empties i [] = []
+empties i ([] ∷ Xs) = i ∷ empties (suc i) Xs
+empties i ((x ∷ X) ∷ Xs) = empties (suc i) Xs
+
+-- the blocks that begin a new mask, of n bytes split as the wide block splits its message
 abbrev pub masksOf : ℕ → List ℕ
-masksOf n = newMasks 2 (full (replicate n 0) - 1)
+masksOf n = empties 2 (cccsOf (blocks (full (replicate n 0)) (replicate n 0)) (rest (replicate n 0)))
 
 -- the table: one row for each of 01's
 pub record Edges : Type 0 where
@@ -45,5 +53,18 @@ pub record Edges : Type 0 where
   pub D12 : sub 0x00 ≡ 0x63
 
 pub edges : Edges
-unfolding double pad blocks
-edges = record { D1 = refl; D2 = refl; D3 = refl; D4 = refl; D5 = refl; D6 = refl; D7 = refl; D8 = refl; D9 = refl; D10 = refl; D11 = refl; D12 = D12 }
+unfolding _⊕_ double pad blocks total padded middle MP CCCs
+edges = record {
+  D1 = refl;
+  D2 = refl;
+  D3 = refl;
+  D4 = refl;
+  D5 = refl;
+  D6 = refl;
+  D7 = refl;
+  D8 = refl;
+  D9 = refl;
+  D10 = refl;
+  D11 = refl;
+  D12 = D12;
+}

@@ -2,5 +2,6 @@
 pub mod Permutation
 pub mod Wide
 pub mod TStar
+pub mod Begins
 pub mod Edges
 pub mod Examples

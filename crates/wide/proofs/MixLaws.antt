@@ -1,10 +1,9 @@
--- The mixing as the code makes it: running sums, one block after the other, and the short block byte by byte.
+-- The mixing as the code makes it: running sums, and one block after the other.
 -- Assumes nothing.
-use mathlib.Core.Path.{_≡_, refl, ap, ap₂, _∙_}
+use mathlib.Core.Path.{_≡_, ap, ap₂, _∙_}
 use mathlib.Core.Bool.{Bool, true, false, cond}
 use mathlib.Core.List.{List, [], _∷_, _++_}
 use Prim.Native.Nat.{ℕ, _+_, _-_, _*_, _/_, _%_, _≤_, _<_}
-use native.Mathlib.Nat.{not-suc-le-zero}
 use native.Mathlib.Omega.{arith}
 use borrow.Author.Tests.{eq-eqb, ne-eqb}
 use lib.Dec.{eqb}
@@ -14,7 +13,8 @@ use Rattle.block.specs.Blocks.{full, blocks}
 use Rattle.block.specs.Double.{double, pad}
 use Rattle.block.proofs.XorLaws.{length-⊕}
 use Rattle.block.proofs.BlockLaws.{first-block, first-rest}
-use Rattle.mode.specs.Wide.{total, padded, begins, mask, cccOf, MC1}
+use Rattle.mode.specs.Wide.{total, padded, begins, mask, cccOf}
+use Rattle.mode.proofs.ShortBlock.{not-short, is-short}
 use Rattle.wide.specs.Passes.{totalOf}
 
 -- ---- steps 18 and 40: a running sum
@@ -31,31 +31,11 @@ total-last X d h =
 
 pub total-end : (X d : List ℕ) → length d ≡ 0 → totalOf X d ≡ X
 unfolding total padded
-total-end X d h = total-last X d (omega arith) ∙ none d h
-  where
-    none : (d : List ℕ) → length d ≡ 0 → total X (padded d) ≡ X
-    none [] h = refl
-    none (x ∷ d) h = let z : ⊥ = omega arith in absurd z
+total-end X d h = total-last X d (omega arith) ∙ ap (λ (t : Bool). total X (cond t (pad d ∷ []) [])) (not-short d h)
 
 pub total-short : (X d : List ℕ) → 0 < length d → length d < 16 → totalOf X d ≡ X ⊕ pad d
 unfolding total padded
-total-short X d h k = total-last X d k ∙ some d h
-  where
-    some : (d : List ℕ) → 0 < length d → total X (padded d) ≡ X ⊕ pad d
-    some [] h = absurd (not-suc-le-zero h)
-    some (x ∷ d) h = refl
-
--- ---- steps 19 to 22
-
-pub MC1-full : (f : List ℕ → List ℕ) (d MM : List ℕ) → length d ≡ 0 → MC1 f d MM ≡ MM
-unfolding MC1
-MC1-full f [] MM h = refl
-MC1-full f (x ∷ d) MM h = let z : ⊥ = omega arith in absurd z
-
-pub MC1-short : (f : List ℕ → List ℕ) (d MM : List ℕ) → 0 < length d → MC1 f d MM ≡ f MM
-unfolding MC1
-MC1-short f [] MM h = absurd (not-suc-le-zero h)
-MC1-short f (x ∷ d) MM h = refl
+total-short X d h k = total-last X d k ∙ ap (λ (t : Bool). total X (cond t (pad d ∷ []) [])) (is-short d h)
 
 -- ---- steps 24 to 32 and 36 to 39: the block that stands at `at`
 

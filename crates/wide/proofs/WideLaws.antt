@@ -1,6 +1,7 @@
 -- The steps that the code takes over the bytes of a message are together the wide block of the definition.
 -- Assumes nothing.
 use mathlib.Core.Path.{_≡_, refl, sym, ap, ap₂, _∙_}
+use mathlib.Core.Bool.{Bool, true, false, cond}
 use mathlib.Core.List.{List, [], _∷_, _++_, map, append-assoc}
 use Prim.Native.Nat.{ℕ, suc, _*_, _≤_, _<_}
 use native.Mathlib.Nat.{not-suc-le-zero}
@@ -12,7 +13,8 @@ use Rattle.block.specs.Blocks.{blockAt, withBlock, full, rest, blocks, join, on
 use Rattle.block.specs.Double.{double}
 use Rattle.block.proofs.XorLaws.{length-⊕}
 use Rattle.block.proofs.BlockLaws.{Sized, sized-blocks, first-block, first-rest, length-rest, length-join, full-join, rest-join, blocks-of, on-join}
-use Rattle.mode.specs.Wide.{enter, total, padded, mask, middle, MP, MC1, mm, mc1, m1, Cm, CCCs, CCC1, wideOn, wide}
+use Rattle.mode.specs.Wide.{enter, total, padded, mask, isShort, middle, MP, MM, MC1, M1, Cm, CCCs, CCC1, wideOn, wide}
+use Rattle.mode.proofs.ShortBlock.{length-Cm}
 use Rattle.mode.proofs.Undo.{length-blocks}
 use Rattle.mode.proofs.Lengths.{length-enter}
 use Rattle.wide.specs.Passes.{masked, totalOf, mixedOn, mixed}
@@ -52,25 +54,20 @@ module _ (f : List ℕ → List ℕ) (size : (x : List ℕ) → length (f x) ≡
   sized-middle M1 i M (X ∷ Xs) h =
       (length-ccc f size M1 i (mask f M1 i M X) X (h .0), sized-middle M1 (suc i) (mask f M1 i M X) Xs (h .1))
 
-  length-MC1 : (s P : List ℕ) → length (MC1 f s (f P)) ≡ 16
-  unfolding MC1
-  length-MC1 [] P = size P
-  length-MC1 (x ∷ s) P = size (f P)
+  length-MC1 : (t : Bool) (P : List ℕ) → length (cond t (f (f P)) (f P)) ≡ 16
+  length-MC1 true P = size (f P)
+  length-MC1 false P = size P
 
   module _ (T X1 : List ℕ) (Xs : List (List ℕ)) (h : Sized Xs) (s : List ℕ) where
     sized-CCCs : Sized (CCCs f T X1 Xs s)
     unfolding CCCs
-    sized-CCCs = sized-middle (m1 f T X1 Xs s) 2 (m1 f T X1 Xs s) Xs h
+    sized-CCCs = sized-middle (M1 f T X1 Xs s) 2 (M1 f T X1 Xs s) Xs h
 
     length-CCC1 : length (CCC1 f T X1 Xs s) ≡ 16
     unfolding CCC1
     length-CCC1 =
         let Ys : List (List ℕ) = CCCs f T X1 Xs s ++ padded (Cm f T X1 Xs s) in
-        length-⊕ (total (mc1 f T X1 Xs s) Ys) T ∙ length-total (mc1 f T X1 Xs s) Ys ∙ length-MC1 s (MP T X1 Xs s)
-
-    length-Cm : length (Cm f T X1 Xs s) ≡ length s
-    unfolding Cm
-    length-Cm = length-⊕ s (mm f T X1 Xs s)
+        length-⊕ (total (MC1 f T X1 Xs s) Ys) T ∙ length-total (MC1 f T X1 Xs s) Ys ∙ length-MC1 (isShort s) (MP f T X1 Xs s)
 
   -- ---- steps 18 to 40: each hypothesis is what one call of the code ensures
 
@@ -78,7 +75,7 @@ module _ (f : List ℕ → List ℕ) (size : (x : List ℕ) → length (f x) ≡
     pub mixing : (mp mmv c1 m1v s1 s2 y : List ℕ)
         → mp ≡ totalOf (blockAt s 0) (drop 16 s) ⊕ T
         → mmv ≡ f mp
-        → c1 ≡ MC1 f (rest s) mmv
+        → c1 ≡ cond (isShort (rest s)) (f mmv) mmv
         → m1v ≡ mp ⊕ c1
         → s1 ≡ take 16 s ++ onBlocks (middle f m1v 2 m1v) (drop 16 s)
         → s2 ≡ shorted s1 mmv
@@ -95,17 +92,17 @@ module _ (f : List ℕ → List ℕ) (size : (x : List ℕ) → length (f x) ≡
         let hC : Sized C = sized-CCCs T X1 Xs hX r in
         let hY : Sized (X1 ∷ C) = (length-take-le 16 s h, hC) in
         let c : List ℕ = Cm f T X1 Xs r in
-        let lc : length c < 16 = omega (arith, length-Cm T X1 Xs hX r) in
-        let q-mm : mmv ≡ mm f T X1 Xs r = e-mm ∙ ap f e-mp in
-        let q-c1 : c1 ≡ mc1 f T X1 Xs r = e-c1 ∙ ap₂ (MC1 f) (first-rest s h) q-mm in
-        let q-m1 : m1v ≡ m1 f T X1 Xs r = e-m1 ∙ ap₂ (λ (a b : List ℕ). a ⊕ b) e-mp q-c1 in
+        let lc : length c < 16 = omega (arith, length-Cm f T X1 Xs r) in
+        let q-mm : mmv ≡ MM f T X1 Xs r = e-mm ∙ ap f e-mp in
+        let q-c1 : c1 ≡ MC1 f T X1 Xs r = e-c1 ∙ ap₂ (λ (d m : List ℕ). cond (isShort d) (f m) m) (first-rest s h) q-mm in
+        let q-m1 : m1v ≡ M1 f T X1 Xs r = e-m1 ∙ ap₂ (λ (a b : List ℕ). a ⊕ b) e-mp q-c1 in
         let q-s1 : s1 ≡ join (X1 ∷ C) ++ r =
         e-s1 ∙ ap (λ (m : List ℕ). X1 ++ onBlocks (middle f m 2 m) (drop 16 s)) q-m1 ∙ sym (append-assoc X1 (join C) r) in
         let q-s2 : s2 ≡ X1 ++ (join C ++ c) =
-        e-s2 ∙ ap₂ shorted q-s1 q-mm ∙ short-join (X1 ∷ C) r (mm f T X1 Xs r) hY lr ∙ append-assoc X1 (join C) c in
+        e-s2 ∙ ap₂ shorted q-s1 q-mm ∙ short-join (X1 ∷ C) r (MM f T X1 Xs r) hY lr ∙ append-assoc X1 (join C) c in
         let q-d : drop 16 s2 ≡ join C ++ c = ap (λ (z : List ℕ). drop 16 z) q-s2 ∙ drop-at X1 (join C ++ c) 16 (hY .0) in
         let q-y : y ≡ CCC1 f T X1 Xs r =
-        e-y ∙ ap₂ (λ (a z : List ℕ). totalOf a z ⊕ T) q-c1 q-d ∙ ap (λ (z : List ℕ). z ⊕ T) (total-join (mc1 f T X1 Xs r) C c hC lc) in
+        e-y ∙ ap₂ (λ (a z : List ℕ). totalOf a z ⊕ T) q-c1 q-d ∙ ap (λ (z : List ℕ). z ⊕ T) (total-join (MC1 f T X1 Xs r) C c hC lc) in
         ap₂ (λ (a z : List ℕ). a ++ z) q-y q-d
         ∙ sym (append-assoc (CCC1 f T X1 Xs r) (join C) c)
         ∙ sym (ap₂ (mixedOn f T) (first-block s h) (first-rest s h))
@@ -120,7 +117,7 @@ module _ (f : List ℕ → List ℕ) (size : (x : List ℕ) → length (f x) ≡
       let Y : List (List ℕ) = CCC1 f T X1 Xs s ∷ CCCs f T X1 Xs s in
       let hY : Sized Y = (length-CCC1 T X1 Xs (h .1) s, sized-CCCs T X1 Xs (h .1) s) in
       let c : List ℕ = Cm f T X1 Xs s in
-      let lc : length c < 16 = omega (arith, length-Cm T X1 Xs (h .1) s) in
+      let lc : length c < 16 = omega (arith, length-Cm f T X1 Xs s) in
       ap (onBlocks (masked L)) (on-join (map f) Y c hY lc)
       ∙ on-join (masked L) (map f Y) c (sized-map Y) lc
       ∙ ap (λ (bs : List (List ℕ)). join bs ++ c) (leave-masked f L Y)

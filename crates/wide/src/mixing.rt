@@ -1,12 +1,13 @@
 // The mixing between the two passes (000, table 1, steps 18 to 40), in place: each block then depends on all.
 ghost use mathlib.Core.Path.{_≡_};
+ghost use mathlib.Core.Bool.{cond};
 ghost use mathlib.Core.List.{_++_};
 ghost use Prim.Native.Nat.{_*_, _≤_, _<_};
 ghost use lib.ListN.{length, take, drop};
 ghost use Rattle.block.specs.Xor.{_⊕_};
 ghost use Rattle.block.specs.Blocks.{full, rest};
 ghost use Rattle.cipher.specs.Cipher.{crypted};
-ghost use Rattle.mode.specs.Wide.{MC1};
+ghost use Rattle.mode.specs.Wide.{isShort};
 ghost use Rattle.wide.specs.Passes.{totalOf, mixed};
 use super::masks;
 use aes::crypt;
@@ -46,7 +47,7 @@ fn total(x: [u8; 16], s: &[u8]) -> [u8; 16]
 // Steps 19 to 22: MC1 is MM, and where the last block is short what the permutation makes of MM.
 fn mc1(back: bool, w: [[u8; 16]; 15], nr: usize, mm: [u8; 16], s: &[u8]) -> [u8; 16]
     requires { ⌜ (0 < nr) × (nr < 15) ⌝ }
-    ensures { λ r. ⌜ r ≡ MC1 (crypted back w nr) (rest (now (s .entry))) mm ⌝ }
+    ensures { λ r. ⌜ r ≡ cond (isShort (rest (now (s .entry)))) (crypted back w nr mm) mm ⌝ }
 {
     if s.len() % 16 == 0 {
         return mm;

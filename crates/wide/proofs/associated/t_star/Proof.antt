@@ -65,14 +65,18 @@ loop-again c =
     let k = c .before .before .before .before .before in
     let a = c .before .before .before .before .before .before .before .before .before .args in
     let f : List ℕ → List ℕ = crypted false (a .w) (a .nr) in
-    let d : List ℕ = drop (k .loop .at) (a .ad .now) in (
+    let at : ℕ = k .loop .at in
+    let m : List ℕ = k .loop .m in
+    let sum : List ℕ = k .loop .sum in
+    let d : List ℕ = drop at (a .ad .now) in
+    let under : c .before .before .under .result ≡ f (m ⊕ take 16 d) ⊕ m =
+    c .before .before .under .ensures ∙ ap (λ (x : List ℕ). f (m ⊕ x) ⊕ m) (c .before .before .before .load .ensures) in (
       omega arith,
-      ap₂ (λ (s r : List ℕ). left f s r (drop (k .loop .at + 16) (a .ad .now)))
-          (c .before .xor .ensures
-          ∙ ap (λ (t : List ℕ). k .loop .sum ⊕ t) (c .before .before .under .ensures ∙ ap (λ (x : List ℕ). f (k .loop .m ⊕ x) ⊕ k .loop .m) (c .before .before .before .load .ensures)))
+      ap₂ (λ (s r : List ℕ). left f s r (drop (at + 16) (a .ad .now)))
+          (c .before .xor .ensures ∙ ap (λ (t : List ℕ). sum ⊕ t) under)
           (c .doubled2 .ensures)
-          ∙ ap (λ (r : List ℕ). left f (k .loop .sum ⊕ (f (k .loop .m ⊕ take 16 d) ⊕ k .loop .m)) (double (k .loop .m)) r) (sym (drop-drop 16 (k .loop .at) (a .ad .now)))
-          ∙ sym (left-turn f (k .loop .sum) (k .loop .m) d (omega (arith, length-drop (k .loop .at) (a .ad .now))))
+          ∙ ap (left f (sum ⊕ (f (m ⊕ take 16 d) ⊕ m)) (double m)) (sym (drop-drop 16 at (a .ad .now)))
+          ∙ sym (left-turn f sum m d (omega (arith, length-drop at (a .ad .now))))
           ∙ k .loop .inv .1,
     )
 
