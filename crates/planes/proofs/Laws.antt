@@ -284,7 +284,8 @@ gather-none s d at =
 pub gather-turn : (s d : List ℕ) (at l : ℕ) → at ≤ length d → withBlock (gathered s d at l) (at + 16 * l) (lane s l) ≡ gathered s d at (l + 1)
 gather-turn s d at l h =
     let j : List ℕ = join (tab l (lane s)) in
-    let n : length (take at d ++ j) ≡ at + 16 * l = length-append (take at d) j ∙ omega (arith, length-take-le at d h, length-join (lane s) (length-lane s) l) in
+    let n : length (take at d ++ j) ≡ at + 16 * l =
+    length-append (take at d) j ∙ omega (arith, length-take-le at d h, length-join (lane s) (length-lane s) l) in
     let e : at + 16 * l + 16 ≡ at + 16 * (l + 1) = omega arith in
     put-next (take at d ++ j) d (lane s l) (at + 16 * l) n
     ∙ ap₂ (λ (t : List ℕ) (m : ℕ). t ++ drop m d)
