@@ -69,7 +69,7 @@ fn keys() {
 /// Lengths that would be taken if only their lower bits were looked at stand
 /// among the messages and the data.
 const FOLDED_MESSAGES: [usize; 5] = [
-    1 << 17,
+    (1 << 17) + 100,
     (1 << 20) + 16,
     (1 << 20) + 2_096,
     (1 << 21) + 65_536,
