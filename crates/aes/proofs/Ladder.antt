@@ -45,7 +45,7 @@ module _ (back : Bool) (k b : List ℕ) where
       let n : number k b ≡ 0 = past-key e ∙ ap (λ (t : Bool). cond (not t) 2 0) (eq-eqb (length b) 16 h) in
       (sym n, p ∙ sym (with-number 0 n))
 
-  -- the whole block loaded, and a result stored in its place
+  -- the whole block loaded, and a result put in its place
   pub over : length b ≡ 16 → (x y : List ℕ) → x ≡ blockAt b 0 → y ≡ crypted back (roundKeys k) (Nr k) x → withBlock b 0 y ≡ aes back k b
   over h x y p q =
       ap (λ (r : List ℕ). y ++ r) (drop-of-length-le b {i = 16} (le-of-eq h))

@@ -1,1 +1,2 @@
+-- What the calls' proofs need.
 pub mod Ladder

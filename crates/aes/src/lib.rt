@@ -1,8 +1,9 @@
-// AES with keys of 16 and 32 bytes, both ways (FIPS 197).
+// AES with keys of 16 and 32 bytes, both ways (FIPS 197, whose sections `specs/Lib.antt` lists).
 //
-// `encipher` and `decipher` are the calls of 01: they take any key and any block, and refuse with 1 and 2. The layer above uses three
-// more, which ask that the key has one of the sizes: `key_setup`, `crypt` and `crypt_blocks`. Its contracts cite `aes` and
-// `crypted`, and its proofs go by `specs/Promise.antt` alone: a block stays a block, and each direction undoes the other.
+// `encipher` and `decipher` are the calls of 01: they take any key and any block, and refuse with 1 and 2. The layers above use five more, which
+// the rooms below offer: `key_size`, which keys are taken; `rounds_of` and `key_setup`, the latter of a key that is taken; and `crypt` and
+// `crypt_blocks`, one block and all full blocks, under round keys and 1 to 14 rounds. Contracts above cite the names of `specs/Aes.antt`, and proofs
+// go by `specs/Promise.antt` alone.
 pub use cipher::crypt;
 pub use cipher::crypt_blocks;
 pub use schedule::key_setup;
@@ -43,8 +44,8 @@ fn call(back: bool, key: &[u8], block: &mut [u8]) -> Answer
     if block.len() != 16 {
         return Answer::BlockLength;
     }
-    let w = key_setup(key);
+    let keys = key_setup(key);
     let b = block::load(block, 0);
-    block::put(block, 0, crypt(back, w, rounds_of(n), b));
+    block::put(block, 0, crypt(back, keys, rounds_of(n), b));
     Answer::Done
 }

@@ -1,6 +1,6 @@
 -- Laws of rows: a row that is put is found again, the other rows are kept, and so are lengths.
 -- Assumes nothing.
-use mathlib.Core.Path.{_≡_, sym, ap, ap₂, _∙_}
+use mathlib.Core.Path.{_≡_, sym, ap, _∙_}
 use mathlib.Core.List.{List, _++_, append-assoc}
 use Prim.Native.Nat.{ℕ, _+_, _-_, _*_, _≤_}
 use native.Mathlib.Omega.{arith}
@@ -25,13 +25,6 @@ module _ (w : ℕ) (s : List ℕ) (k : ℕ) (h : k * w + w ≤ length s) where
 
   front : length (take (k * w) s) ≡ k * w
   front = length-take-le (k * w) s (omega arith)
-
-  pub put-row : putRow w s k (row w s k) ≡ s
-  unfolding row putRow
-  put-row =
-      ap (λ (d : List ℕ). take (k * w) s ++ (take w (drop (k * w) s) ++ d)) (sym (drop-drop w (k * w) s))
-      ∙ ap (λ (d : List ℕ). take (k * w) s ++ d) (take-append-drop w (drop (k * w) s))
-      ∙ take-append-drop (k * w) s
 
   module _ (r : List ℕ) (l : length r ≡ w) where
     pub length-putRow : length (putRow w s k r) ≡ length s
@@ -64,15 +57,6 @@ module _ (w : ℕ) (s : List ℕ) (k : ℕ) (h : k * w + w ≤ length s) where
         ap (λ (z : List ℕ). take w (drop (j * w) z)) (sym (append-assoc (take (k * w) s) r (drop (k * w + w) s)))
         ∙ ap (λ (i : ℕ). take w (drop i (p ++ drop (k * w + w) s))) e
         ∙ ap (take w) (drop-append-add p (drop (k * w + w) s) n ∙ drop-drop n (k * w + w) s ∙ ap (λ (i : ℕ). drop i s) m)
-
-    pub put-put : (r′ : List ℕ) → putRow w (putRow w s k r) k r′ ≡ putRow w s k r′
-    unfolding putRow
-    put-put r′ =
-        let p : List ℕ = take (k * w) s in
-        let q : List ℕ = drop (k * w + w) s in
-        ap₂ (λ (x y : List ℕ). x ++ (r′ ++ y))
-        (take-at p (r ++ q) (k * w) front)
-        (ap (drop (k * w + w)) (sym (append-assoc p r q)) ∙ drop-at (p ++ r) q (k * w + w) both)
 
     pub bytes-putRow : Bytes s → Bytes r → Bytes (putRow w s k r)
     unfolding putRow

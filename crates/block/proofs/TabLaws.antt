@@ -11,10 +11,6 @@ use Rattle.block.specs.Tab.{tab}
 use Rattle.block.specs.Bytes.{Bytes, Block}
 
 module _ {ℓ} {A : Type ℓ} where
-  pub length-tab : (n : ℕ) (f : ℕ → A) → length (tab n f) ≡ n
-  length-tab zero f = refl
-  length-tab (suc n) f = ap suc (length-tab n (λ i. f (suc i)))
-
   pub getD-tab : (n : ℕ) (f : ℕ → A) (i : ℕ) (d : A) → i < n → getD (tab n f) i d ≡ f i
   getD-tab zero f i d h = absurd (not-suc-le-zero h)
   getD-tab (suc n) f zero d h = refl

@@ -91,11 +91,6 @@ unfolding _⊕_
 ⊕-assoc (x ∷ a) (y ∷ b) [] h = refl
 ⊕-assoc (x ∷ a) (y ∷ b) (z ∷ c) h = ap₂ (λ (h : ℕ) (t : List ℕ). h ∷ t) (xor-assoc x y z) (⊕-assoc a b c (le-of-suc-le-suc h))
 
-pub ⊕-self : (a : List ℕ) → a ⊕ a ≡ replicate (length a) 0
-unfolding _⊕_
-⊕-self [] = refl
-⊕-self (x ∷ a) = ap₂ (λ (h : ℕ) (t : List ℕ). h ∷ t) (xor-self x) (⊕-self a)
-
 pub ⊕-zero : (a : List ℕ) (n : ℕ) → a ⊕ replicate n 0 ≡ a
 unfolding _⊕_
 ⊕-zero [] n = refl

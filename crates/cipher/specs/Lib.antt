@@ -1,2 +1,2 @@
--- FIPS 197, 5.1 and 5.3: Cipher and InvCipher, and that each undoes the other.
+-- FIPS 197, 5.1 and 5.3: Cipher and InvCipher.
 pub mod Cipher

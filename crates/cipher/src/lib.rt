@@ -1,4 +1,4 @@
-// FIPS 197, 5.1 and 5.3: Cipher and InvCipher. The round keys `w` come by value from key setup; `nr` is the number of rounds.
+// FIPS 197, 5.1 and 5.3: Cipher and InvCipher. The round keys come by value from key setup; `nr` is the number of rounds.
 //
 // Contracts cite `specs/Cipher.antt`. That each direction undoes the other is in `proofs/`: `Undo`.
 ghost use mathlib.Core.Path.{_≡_};
@@ -9,7 +9,7 @@ ghost use Rattle.block.specs.Blocks.{onBlocks};
 ghost use Rattle.cipher.specs.Cipher.{cipher, invCipher, crypted};
 
 // Up to sixteen blocks at once.
-mod wide;
+mod lanes;
 
 use block::xor;
 use rounds::inv_mix_columns;
@@ -20,66 +20,66 @@ use sbox::inv_sub_bytes;
 use sbox::sub_bytes;
 
 // One block, enciphered, or with `back` deciphered.
-pub fn crypt(back: bool, w: [[u8; 16]; 15], nr: usize, b: [u8; 16]) -> [u8; 16]
+pub fn crypt(back: bool, keys: [[u8; 16]; 15], nr: usize, b: [u8; 16]) -> [u8; 16]
     requires { ⌜ (0 < nr) × (nr < 15) ⌝ }
-    ensures { λ r. ⌜ r ≡ crypted back w nr b ⌝ }
+    ensures { λ r. ⌜ r ≡ crypted back keys nr b ⌝ }
 {
     if back {
-        inverse(w, nr, b)
+        inverse(keys, nr, b)
     } else {
-        forward(w, nr, b)
+        forward(keys, nr, b)
     }
 }
 
 // Every full block of s in place; the bytes after them are kept.
-pub fn crypt_blocks(back: bool, w: [[u8; 16]; 15], nr: usize, s: &mut [u8])
+pub fn crypt_blocks(back: bool, keys: [[u8; 16]; 15], nr: usize, s: &mut [u8])
     requires { ⌜ (0 < nr) × (nr < 15) ⌝ }
-    ensures { λ _. ⌜ now (s .exit) ≡ onBlocks (map (crypted back w nr)) (now (s .entry)) ⌝ }
+    ensures { λ _. ⌜ now (s .exit) ≡ onBlocks (map (crypted back keys nr)) (now (s .entry)) ⌝ }
 {
-    let at = wide::together(back, w, nr, s);
-    singly(back, w, nr, s, at);
+    let at = lanes::together(back, keys, nr, s);
+    singly(back, keys, nr, s, at);
 }
 
 // Every full block of s from `from` on, one after the other.
-fn singly(back: bool, w: [[u8; 16]; 15], nr: usize, s: &mut [u8], from: usize)
+fn singly(back: bool, keys: [[u8; 16]; 15], nr: usize, s: &mut [u8], from: usize)
     requires { ⌜ (0 < nr) × (nr < 15) × (from ≤ length (now s)) ⌝ }
-    ensures { λ _. ⌜ now (s .exit) ≡ take from (now (s .entry)) ++ onBlocks (map (crypted back w nr)) (drop from (now (s .entry))) ⌝ }
+    ensures { λ _. ⌜ now (s .exit) ≡ take from (now (s .entry)) ++ onBlocks (map (crypted back keys nr)) (drop from (now (s .entry))) ⌝ }
 {
     let mut at = from;
     while s.len() - at >= 16 {
         let x = block::load(s, at);
-        block::put(s, at, crypt(back, w, nr, x));
+        block::put(s, at, crypt(back, keys, nr, x));
         at += 16;
     }
 }
 
 // Cipher.
-fn forward(w: [[u8; 16]; 15], nr: usize, b: [u8; 16]) -> [u8; 16]
+fn forward(keys: [[u8; 16]; 15], nr: usize, b: [u8; 16]) -> [u8; 16]
     requires { ⌜ (0 < nr) × (nr < 15) ⌝ }
-    ensures { λ r. ⌜ r ≡ cipher w nr b ⌝ }
+    ensures { λ r. ⌜ r ≡ cipher keys nr b ⌝ }
 {
-    let mut s = xor(b, w[0]);
+    let mut s = xor(b, keys[0]);
     let mut j = 1;
     while j < nr {
         let t = mix_columns(shift_rows(sub_bytes(s)));
-        s = xor(t, w[j]);
+        s = xor(t, keys[j]);
         j += 1;
     }
-    xor(shift_rows(sub_bytes(s)), w[nr])
+    xor(shift_rows(sub_bytes(s)), keys[nr])
 }
 
 // InvCipher.
-fn inverse(w: [[u8; 16]; 15], nr: usize, b: [u8; 16]) -> [u8; 16]
+fn inverse(keys: [[u8; 16]; 15], nr: usize, b: [u8; 16]) -> [u8; 16]
     requires { ⌜ (0 < nr) × (nr < 15) ⌝ }
-    ensures { λ r. ⌜ r ≡ invCipher w nr b ⌝ }
+    ensures { λ r. ⌜ r ≡ invCipher keys nr b ⌝ }
 {
-    let mut s = xor(b, w[nr]);
+    let mut s = xor(b, keys[nr]);
     let mut j = nr - 1;
     while j > 0 {
-        let t = xor(inv_sub_bytes(inv_shift_rows(s)), w[j]);
+        let t = xor(inv_sub_bytes(inv_shift_rows(s)), keys[j]);
         let u = inv_mix_columns(t);
         s = u;
         j -= 1;
     }
-    xor(inv_sub_bytes(inv_shift_rows(s)), w[0])
+    xor(inv_sub_bytes(inv_shift_rows(s)), keys[0])
 }

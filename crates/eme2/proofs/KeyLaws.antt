@@ -8,11 +8,8 @@ use native.Mathlib.Omega.{arith}
 use lib.ListN.{length, take, drop, length-drop}
 use lib.Seq.{length-take-le, take-all}
 use Rattle.block.specs.Blocks.{blockAt}
-use Rattle.schedule.specs.KeyExpansion.{roundKeys}
-use Rattle.schedule.proofs.Laws.{key-sizes}
-use Rattle.cipher.specs.Cipher.{crypted}
-use Rattle.aes.specs.Aes.{aes}
-use Rattle.aes.specs.Promise.{crypted-aes}
+use Rattle.aes.specs.Aes.{roundKeys, crypted, aes}
+use Rattle.aes.specs.Promise.{key-bounds, crypted-aes}
 use Rattle.mode.specs.Wide.{wide}
 use Rattle.mode.specs.TStar.{eme2TStar}
 use Rattle.eme2.specs.Transform.{Key1, Key2, Key3, keyTaken, eme2}
@@ -34,18 +31,18 @@ module _ (k : List ℕ) (h : 32 ≤ length k) where
       ap (λ (j : ℕ). take 16 (drop j k)) n ∙ take-all 16 (drop (length k - 16) k) (omega (arith, length-drop (length k - 16) k))
 
   -- each hypothesis is what one call of the code ensures
-  pub transformed : (back : Bool) (ad m : List ℕ) (w : List (List ℕ)) (nr : ℕ) (k3 t l m′ : List ℕ)
-      → w ≡ roundKeys (take (length k - 32 - 0) k)
+  pub transformed : (back : Bool) (ad m : List ℕ) (keys : List (List ℕ)) (nr : ℕ) (k3 t l m′ : List ℕ)
+      → keys ≡ roundKeys (take (length k - 32 - 0) k)
       → nr ≡ (length k - 32) / 4 + 6
       → k3 ≡ blockAt k (length k - 32 + 16)
-      → t ≡ eme2TStar (crypted false w nr) k3 ad
+      → t ≡ eme2TStar (crypted false keys nr) k3 ad
       → l ≡ blockAt k (length k - 32)
-      → m′ ≡ wide (crypted back w nr) l t m
+      → m′ ≡ wide (crypted back keys nr) l t m
       → m′ ≡ eme2 back k ad m
   unfolding eme2
-  transformed back ad m w nr k3 t l m′ e-w e-n e-3 e-t e-l e-m =
-      let same : (b : Bool) → crypted b w nr ≡ aes b (Key1 k) =
-      λ b. ap₂ (crypted b) (e-w ∙ ap roundKeys key1-part) (e-n ∙ ap (λ (n : ℕ). n / 4 + 6) (sym length-Key1)) ∙ (λ i x. crypted-aes b (Key1 k) x i) in
+  transformed back ad m keys nr k3 t l m′ e-keys e-n e-3 e-t e-l e-m =
+      let same : (b : Bool) → crypted b keys nr ≡ aes b (Key1 k) =
+      λ b. ap₂ (crypted b) (e-keys ∙ ap roundKeys key1-part) (e-n ∙ ap (λ (n : ℕ). n / 4 + 6) (sym length-Key1)) ∙ (λ i x. crypted-aes b (Key1 k) x i) in
       e-m
       ∙ ap₂ (λ (f : List ℕ → List ℕ) (x : List ℕ). wide f x t m) (same back) e-l
       ∙ ap (λ (x : List ℕ). wide (aes back (Key1 k)) (Key2 k) x m)
@@ -53,4 +50,4 @@ module _ (k : List ℕ) (h : 32 ≤ length k) where
 
 -- a key of an allowed size
 pub key-long : (k : List ℕ) → keyTaken k ≡ true → (48 ≤ length k) × (length k ≤ 64)
-key-long k e = omega (arith, key-sizes (length k - 32) e)
+key-long k e = omega (arith, key-bounds (length k - 32) e)

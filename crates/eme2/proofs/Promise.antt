@@ -2,20 +2,17 @@
 -- direction undoes the other.
 -- Assumes nothing.
 use mathlib.Core.Path.{_≡_, refl, ap, _∙_}
-use mathlib.Core.Bool.{Bool, true, false, cond, not, _||_}
+use mathlib.Core.Bool.{Bool, true, false, cond, not}
 use mathlib.Core.List.{List}
 use Prim.Native.Nat.{ℕ, _-_, _≤_}
 use native.Mathlib.Omega.{arith}
-use borrow.Author.Tests.{ltb-false, eqb-true}
-use lib.Dec.{eqb, ltb}
+use borrow.Author.Tests.{eqb-true}
+use lib.Dec.{eqb}
 use lib.ListN.{length, drop, length-drop}
 use lib.Seq.{length-take-le}
 use Rattle.block.specs.Bytes.{Bytes, Block}
-use Rattle.block.proofs.BoolLaws.{neither}
 use Rattle.block.proofs.BytesLaws.{bytes-take, bytes-drop}
-use Rattle.schedule.specs.Size.{keySize}
-use Rattle.schedule.proofs.Laws.{key-sizes}
-use Rattle.aes.specs.Aes.{aes}
+use Rattle.aes.specs.Aes.{keySize, aes}
 use Rattle.aes.specs.Promise.{aes-block, aes-undone}
 use Rattle.mode.specs.Permutation.{Undoes}
 use Rattle.mode.specs.TStar.{eme2TStar}
@@ -23,26 +20,21 @@ use Rattle.mode.proofs.Undo.{wide-undone}
 use Rattle.mode.proofs.Lengths.{length-wide, bytes-wide}
 use Rattle.mode.proofs.TStarLaws.{block-tStar}
 use Rattle.eme2.specs.Transform.{Key1, Key2, Key3, keyTaken, number, eme2, afterwards}
-
--- what the ladder says where it lets a call through
-through : (a b c : Bool) → _≡_ {A = ℕ} (cond (not a) 1 (cond b 2 (cond c 3 0))) 0 → (a ≡ true) × (b ≡ false)
-through true false c e = (refl, refl)
-through true true c e = let z : ⊥ = omega arith in absurd z
-through false b c e = let z : ⊥ = omega arith in absurd z
+use Rattle.eme2.proofs.Bounds.{number-0}
+use Rattle.eme2.proofs.KeyLaws.{length-Key1, key-long}
 
 module _ (k ad m : List ℕ) (bk : Bytes k) (bad : Bytes ad) (bm : Bytes m) (e : number k ad m ≡ 0) where
-  tests : (keyTaken k ≡ true) × ((ltb (length m) 16 || ltb 65536 (length m)) ≡ false)
-  unfolding number
-  tests = through (keyTaken k) (ltb (length m) 16 || ltb 65536 (length m)) (ltb 1024 (length ad)) e
+  key-good : keyTaken k ≡ true
+  key-good = number-0 k ad m .0 e .0
 
   long : 16 ≤ length m
-  long = ltb-false (length m) 16 (neither (ltb (length m) 16) (ltb 65536 (length m)) (tests .1) .0)
+  long = number-0 k ad m .0 e .1 .0
 
-  key-long : 48 ≤ length k
-  key-long = omega (arith, key-sizes (length k - 32) (tests .0))
+  fields : 48 ≤ length k
+  fields = key-long k key-good .0
 
   size : keySize (length (Key1 k)) ≡ true
-  size = ap keySize (length-take-le (length k - 32) k (omega arith)) ∙ tests .0
+  size = ap keySize (length-Key1 k (omega (arith, fields))) ∙ key-good
 
   bytes1 : Bytes (Key1 k)
   bytes1 = bytes-take (length k - 32) k bk
@@ -50,12 +42,12 @@ module _ (k ad m : List ℕ) (bk : Bytes k) (bad : Bytes ad) (bm : Bytes m) (e :
   block2 : Block (Key2 k)
   block2 =
       record {
-        size = length-take-le 16 (drop (length k - 32) k) (omega (arith, key-long, length-drop (length k - 32) k));
+        size = length-take-le 16 (drop (length k - 32) k) (omega (arith, fields, length-drop (length k - 32) k));
         bytes = bytes-take 16 (drop (length k - 32) k) (bytes-drop (length k - 32) k bk);
       }
 
   block3 : Block (Key3 k)
-  block3 = record { size = length-drop (length k - 16) k ∙ omega (arith, key-long); bytes = bytes-drop (length k - 16) k bk }
+  block3 = record { size = length-drop (length k - 16) k ∙ omega (arith, fields); bytes = bytes-drop (length k - 16) k bk }
 
   undoes : (back : Bool) → Undoes (aes back (Key1 k)) (aes (not back) (Key1 k))
   undoes back = record { keeps = λ {b} h. aes-block (Key1 k) size bytes1 back h; back = λ {b} h. aes-undone (Key1 k) size bytes1 back h }
@@ -75,11 +67,12 @@ module _ (k ad m : List ℕ) (bk : Bytes k) (bad : Bytes ad) (bm : Bytes m) (e :
   unfolding eme2
   eme2-undone back = wide-undone (aes back (Key1 k)) (aes (not back) (Key1 k)) (undoes back) block2 star m long bm
 
--- the number goes by the length of the message alone
-number-length : (k ad m m′ : List ℕ) → length m′ ≡ length m → number k ad m′ ≡ number k ad m
-unfolding number
-number-length k ad m m′ e =
-    ap (λ (n : ℕ). cond (not (keyTaken k)) 1 (cond (ltb n 16 || ltb 65536 n) 2 (cond (ltb 1024 (length ad)) 3 0))) e
+-- a message of the same length is taken as well
+still-taken : (k ad m m′ : List ℕ) → length m′ ≡ length m → number k ad m ≡ 0 → number k ad m′ ≡ 0
+still-taken k ad m m′ e n =
+    let t = number-0 k ad m .0 n in
+    let h : (16 ≤ length m′) × (length m′ ≤ 65536) = omega (arith, t .1) in
+    number-0 k ad m′ .1 (t .0, h, t .2)
 
 module _ (back : Bool) (k ad m : List ℕ) (bk : Bytes k) (bad : Bytes ad) (bm : Bytes m) where
   -- refused or not
@@ -90,7 +83,7 @@ module _ (back : Bool) (k ad m : List ℕ) (bk : Bytes k) (bad : Bytes ad) (bm :
       let n : number k ad m ≡ 0 = eqb-true (number k ad m) 0 e in
       let c : List ℕ = eme2 back k ad m in
       let l : length c ≡ length m = length-eme2 k ad m bk bad bm n back in
-      (l, ap (λ (x : ℕ). cond (eqb x 0) (eme2 (not back) k ad c) c) (number-length k ad m c l ∙ n) ∙ eme2-undone k ad m bk bad bm n back)
+      (l, ap (λ (x : ℕ). cond (eqb x 0) (eme2 (not back) k ad c) c) (still-taken k ad m c l n) ∙ eme2-undone k ad m bk bad bm n back)
   both false e = (refl, ap (λ (t : Bool). cond t (eme2 (not back) k ad m) m) e)
 
   pub length-kept : length (afterwards back k ad m) ≡ length m

@@ -5,8 +5,7 @@ use mathlib.Core.List.{List}
 use Prim.Native.Nat.{ℕ, _-_}
 use lib.Dec.{eqb, ltb}
 use lib.ListN.{length, take, drop}
-use Rattle.schedule.specs.Size.{keySize}
-use Rattle.aes.specs.Aes.{aes}
+use Rattle.aes.specs.Aes.{keySize, aes}
 use Rattle.mode.specs.Wide.{wide}
 use Rattle.mode.specs.TStar.{eme2TStar}
 
@@ -24,10 +23,16 @@ Key3 k = drop (length k - 16) k
 abbrev pub keyTaken : List ℕ → Bool
 keyTaken k = keySize (length k - 32)
 
--- the numbers of 01 in their order: a key that is not 48 or 64 bytes; a message below 16 or above 65,536; associated data above 1,024
+-- a message below 16 bytes or above 65,536, and associated data above 1,024
+unfoldable pub badMessage : List ℕ → Bool
+badMessage m = ltb (length m) 16 || ltb 65536 (length m)
+
+unfoldable pub badData : List ℕ → Bool
+badData ad = ltb 1024 (length ad)
+
+-- the numbers of 01 in their order
 unfoldable pub number : List ℕ → List ℕ → List ℕ → ℕ
-number k ad m =
-    cond (not (keyTaken k)) 1 (cond (ltb (length m) 16 || ltb 65536 (length m)) 2 (cond (ltb 1024 (length ad)) 3 0))
+number k ad m = cond (not (keyTaken k)) 1 (cond (badMessage m) 2 (cond (badData ad) 3 0))
 
 -- enciphering, or with `back` deciphering; T_star is made with Enc either way
 unfoldable pub eme2 : Bool → List ℕ → List ℕ → List ℕ → List ℕ

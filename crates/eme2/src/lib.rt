@@ -68,8 +68,8 @@ fn transform(back: bool, key: &[u8], ad: &[u8], message: &mut [u8])
     ensures { λ _. ⌜ now (message .exit) ≡ eme2 back (now (key .entry)) (now (ad .entry)) (now (message .entry)) ⌝ }
 {
     let end = key.len() - 32;
-    let w = aes::key_setup(&key[0..end]);
+    let keys = aes::key_setup(&key[0..end]);
     let nr = aes::rounds_of(end);
-    let t = wide::t_star(w, nr, block::load(key, end + 16), ad);
-    wide::wide(back, w, nr, block::load(key, end), t, message);
+    let t = wide::t_star(keys, nr, block::load(key, end + 16), ad);
+    wide::wide(back, keys, nr, block::load(key, end), t, message);
 }

@@ -69,9 +69,9 @@ fn set_up(key: &[u8]) {
         print_number(Answer::KeyLength);
         return;
     }
-    let w = aes::key_setup(key);
+    let keys = aes::key_setup(key);
     let nr = aes::rounds_of(n);
-    let last = w[nr];
+    let last = keys[nr];
     print_number(Answer::Done);
     print_byte(last[12]);
     print_byte(last[13]);

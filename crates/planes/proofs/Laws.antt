@@ -1,4 +1,4 @@
--- Laws of planes: what one store changes, what the blocks are once all planes are stored, and each step by its planes.
+-- Laws of planes: what one put changes, what the blocks are once all planes are put, and each step by its planes.
 -- Assumes nothing.
 use mathlib.Core.Path.{_≡_, refl, sym, ap, ap₂, _∙_}
 use mathlib.Core.Bool.{Bool, true, false, cond}
@@ -26,7 +26,7 @@ use Rattle.rounds.proofs.Columns.{sum, five-and-four, inv-mix-by-mix}
 use Rattle.planes.specs.Lanes.{lane, Lanewise}
 use Rattle.planes.specs.Planes.{Plane, below, picked}
 
--- ---- the bytes of a block, of a lane, of a list after a store
+-- ---- the bytes of a block, of a lane, of a list after a put
 
 byte-block : (s : List ℕ) (at l : ℕ) → l < 16 → byte (blockAt s at) l ≡ byte s (at + l)
 byte-block s at l h = getD-take 16 (drop at s) l 0 h ∙ getD-drop at s l 0
@@ -45,18 +45,18 @@ module _ (d y : List ℕ) (at : ℕ) (h : at + 16 ≤ length d) (k : length y �
   fronts : length (take at d ++ y) ≡ at + 16
   fronts = length-append (take at d) y ∙ ap₂ (λ (m n : ℕ). m + n) front k
 
-  stored-before : (i : ℕ) → i < at → byte (withBlock d at y) i ≡ byte d i
-  stored-before i l =
+  put-before : (i : ℕ) → i < at → byte (withBlock d at y) i ≡ byte d i
+  put-before i l =
       List·getD-append (take at d ++ y) (drop (at + 16) d) 0 i (omega (arith, fronts))
       ∙ List·getD-append (take at d) y 0 i (omega (arith, front))
       ∙ getD-take at d i 0 l
 
-  stored-there : (i : ℕ) → i < 16 → byte (withBlock d at y) (at + i) ≡ byte y i
-  stored-there i l =
+  put-there : (i : ℕ) → i < 16 → byte (withBlock d at y) (at + i) ≡ byte y i
+  put-there i l =
       List·getD-append (take at d ++ y) (drop (at + 16) d) 0 (at + i) (omega (arith, fronts)) ∙ byte-after (take at d) y at i front
 
-  stored-after : (i : ℕ) → at + 16 ≤ i → byte (withBlock d at y) i ≡ byte d i
-  stored-after i l =
+  put-after : (i : ℕ) → at + 16 ≤ i → byte (withBlock d at y) i ≡ byte d i
+  put-after i l =
       let e : i ≡ at + 16 + (i - (at + 16)) = omega arith in
       ap (λ (n : ℕ). byte (withBlock d at y) n) e
       ∙ byte-after (take at d ++ y) (drop (at + 16) d) (at + 16) (i - (at + 16)) fronts
@@ -82,9 +82,9 @@ made-more {x} {d₀} {d} {d′} {p} m h y k e f =
       size = ap length e ∙ length-withBlock d (16 * p) y n k ∙ m .size;
       done =
           below-more (λ q. (l : ℕ) → l < 16 → byte d′ (16 * q + l) ≡ byte (x l) q) p
-          (λ q i l j. ap (λ (t : List ℕ). byte t (16 * q + l)) e ∙ stored-before d y (16 * p) n k (16 * q + l) (omega arith) ∙ m .done q i l j)
-          (λ l j. ap (λ (t : List ℕ). byte t (16 * p + l)) e ∙ stored-there d y (16 * p) n k l j ∙ f l j);
-      left = λ i j. ap (λ (t : List ℕ). byte t i) e ∙ stored-after d y (16 * p) n k i (omega arith) ∙ m .left i (omega arith);
+          (λ q i l j. ap (λ (t : List ℕ). byte t (16 * q + l)) e ∙ put-before d y (16 * p) n k (16 * q + l) (omega arith) ∙ m .done q i l j)
+          (λ l j. ap (λ (t : List ℕ). byte t (16 * p + l)) e ∙ put-there d y (16 * p) n k l j ∙ f l j);
+      left = λ i j. ap (λ (t : List ℕ). byte t i) e ∙ put-after d y (16 * p) n k i (omega arith) ∙ m .left i (omega arith);
     }
 
 pub made-all : {x : ℕ → List ℕ} {d₀ d : List ℕ} {p : ℕ} → Made x d₀ d p → 16 ≤ p → ((l : ℕ) → l < 16 → length (x l) ≡ 16)
@@ -284,7 +284,8 @@ gather-none s d at =
 pub gather-turn : (s d : List ℕ) (at l : ℕ) → at ≤ length d → withBlock (gathered s d at l) (at + 16 * l) (lane s l) ≡ gathered s d at (l + 1)
 gather-turn s d at l h =
     let j : List ℕ = join (tab l (lane s)) in
-    let n : length (take at d ++ j) ≡ at + 16 * l = length-append (take at d) j ∙ omega (arith, length-take-le at d h, length-join (lane s) (length-lane s) l) in
+    let n : length (take at d ++ j) ≡ at + 16 * l =
+    length-append (take at d) j ∙ omega (arith, length-take-le at d h, length-join (lane s) (length-lane s) l) in
     let e : at + 16 * l + 16 ≡ at + 16 * (l + 1) = omega arith in
     put-next (take at d ++ j) d (lane s l) (at + 16 * l) n
     ∙ ap₂ (λ (t : List ℕ) (m : ℕ). t ++ drop m d)

@@ -10,10 +10,7 @@ use lib.Dec.{eqb, ltb}
 use lib.ListN.{length}
 use lib.Seq.{take-all}
 use Rattle.block.specs.Blocks.{blockAt}
-use Rattle.schedule.specs.Size.{keySize, Nr}
-use Rattle.schedule.specs.KeyExpansion.{roundKeys}
-use Rattle.cipher.specs.Cipher.{crypted}
-use Rattle.aes.specs.Aes.{aes}
+use Rattle.aes.specs.Aes.{keySize, Nr, roundKeys, crypted, aes}
 use Rattle.aes.specs.Promise.{crypted-aes}
 use Rattle.mode.specs.Wide.{wide}
 use Rattle.probe.specs.Calls.{wideNumber, wideAfterwards, WideCalled}
@@ -58,10 +55,10 @@ module _ (back : Bool) (k L T m : List ℕ) where
         (sym n, p ∙ sym (with-number 0 n))
 
   -- each hypothesis is what one call of the code ensures
-  pub over : length L ≡ 16 → length T ≡ 16 → (w : List (List ℕ)) (nr : ℕ) (l t m′ : List ℕ)
-      → w ≡ roundKeys k → nr ≡ Nr k → l ≡ blockAt L 0 → t ≡ blockAt T 0 → m′ ≡ wide (crypted back w nr) l t m → m′ ≡ wide (aes back k) L T m
-  over hL hT w nr l t m′ e-w e-n e-l e-t e-m =
+  pub over : length L ≡ 16 → length T ≡ 16 → (keys : List (List ℕ)) (nr : ℕ) (l t m′ : List ℕ)
+      → keys ≡ roundKeys k → nr ≡ Nr k → l ≡ blockAt L 0 → t ≡ blockAt T 0 → m′ ≡ wide (crypted back keys nr) l t m → m′ ≡ wide (aes back k) L T m
+  over hL hT keys nr l t m′ e-keys e-n e-l e-t e-m =
       e-m
-      ∙ ap₂ (λ (v : List (List ℕ)) (n : ℕ). wide (crypted back v n) l t m) e-w e-n
+      ∙ ap₂ (λ (v : List (List ℕ)) (n : ℕ). wide (crypted back v n) l t m) e-keys e-n
       ∙ ap₂ (λ (x y : List ℕ). wide (crypted back (roundKeys k) (Nr k)) x y m) (e-l ∙ take-all 16 L (le-of-eq hL)) (e-t ∙ take-all 16 T (le-of-eq hT))
       ∙ ap (λ (f : List ℕ → List ℕ). wide f L T m) (λ i x. crypted-aes back k x i)

@@ -7,8 +7,7 @@ use Prim.Native.Nat.{ℕ}
 use lib.Dec.{eqb, ltb}
 use lib.ListN.{length}
 use Rattle.block.specs.Blocks.{onBlocks}
-use Rattle.schedule.specs.Size.{keySize}
-use Rattle.aes.specs.Aes.{aes}
+use Rattle.aes.specs.Aes.{keySize, aes}
 use Rattle.mode.specs.Wide.{wide}
 
 abbrev pub BlocksCalled : Bool → List ℕ → List ℕ → ℕ → List ℕ → Type 0

@@ -108,8 +108,10 @@ module _
         ∷ []
       where
         there : (j k l m : ℕ)
-            → sum (p0 • sum (q0 • byte s j) (q1 • byte s k) (q2 • byte s l) (q3 • byte s m)) (p1 • sum (q0 • byte s k) (q1 • byte s l) (q2 • byte s m) (q3 • byte s j))
-            (p2 • sum (q0 • byte s l) (q1 • byte s m) (q2 • byte s j) (q3 • byte s k)) (p3 • sum (q0 • byte s m) (q1 • byte s j) (q2 • byte s k) (q3 • byte s l))
+            → sum (p0 • sum (q0 • byte s j) (q1 • byte s k) (q2 • byte s l) (q3 • byte s m))
+            (p1 • sum (q0 • byte s k) (q1 • byte s l) (q2 • byte s m) (q3 • byte s j))
+            (p2 • sum (q0 • byte s l) (q1 • byte s m) (q2 • byte s j) (q3 • byte s k))
+            (p3 • sum (q0 • byte s m) (q1 • byte s j) (q2 • byte s k) (q3 • byte s l))
             ≡ sum (r0 • byte s j) (r1 • byte s k) (r2 • byte s l) (r3 • byte s m)
         there j k l m =
             row-product (byte s j) (byte s k) (byte s l) (byte s m) (b .bytes .below j) (b .bytes .below k) (b .bytes .below l) (b .bytes .below m)

@@ -23,7 +23,10 @@ ofBits (x ∷ xs) = x + 2 * ofBits xs
 unfoldable pub affine : ℕ → ℕ
 affine b =
     ofBits
-    (tab 8 (λ i. bitXor (bitXor (bitXor (bitXor (bitXor (bit b i) (bit b ((i + 4) % 8))) (bit b ((i + 5) % 8))) (bit b ((i + 6) % 8))) (bit b ((i + 7) % 8))) (bit 0x63 i)))
+    (tab 8
+    (λ i.
+    bitXor (bitXor (bitXor (bitXor (bitXor (bit b i) (bit b ((i + 4) % 8))) (bit b ((i + 5) % 8))) (bit b ((i + 6) % 8))) (bit b ((i + 7) % 8)))
+    (bit 0x63 i)))
 
 -- the rule, for every entry of the table: the inverse in the field, 0 kept, then the affine step
 pub sub-rule : (x : ℕ) → x < 256 → sub x ≡ affine (inverse x)

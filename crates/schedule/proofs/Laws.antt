@@ -1,4 +1,5 @@
--- Laws of the key schedule: its words, what it adds in one turn, and that the round keys are 15 blocks.
+-- Laws of the key schedule: its words, what it adds in one turn, how many bytes it makes of each key size, and that the round keys are blocks
+-- of it.
 -- Assumes nothing.
 use mathlib.Core.Path.{_≡_, refl, sym, ap, ap₂, _∙_, subst}
 use mathlib.Core.Bool.{Bool, true, false, cond, _&&_}
@@ -30,10 +31,6 @@ use Rattle.schedule.specs.KeyExpansion.{word, rcon, Rcon, rotWord, temp,
 
 pub key-sizes : (n : ℕ) → keySize n ≡ true → (4 ≤ n / 4) × (n / 4 ≤ 8) × (4 * (n / 4) ≡ n)
 key-sizes n = either (eqb n 16) (eqb n 32) (λ e. omega (arith, eqb-true n 16 e)) (λ e. omega (arith, eqb-true n 32 e))
-
--- eleven round keys of a key of 16 bytes, fifteen of one of 32
-pub round-key-count : (key : List ℕ) → (length key ≡ 16 → Nr key + 1 ≡ 11) × (length key ≡ 32 → Nr key + 1 ≡ 15)
-round-key-count key = (λ h. omega arith, λ h. omega arith)
 
 -- ---- words
 
@@ -89,6 +86,20 @@ length-expanded nk key h l (suc n) =
     let e = length-expanded nk key h l n in
     length-append (expanded nk key n) (nextWord nk (nk + n) (expanded nk key n))
     ∙ omega (arith, length-nextWord nk (nk + n) (expanded nk key n) (omega arith))
+
+-- of every key size: as many bytes as a round key for each round, and one more, take
+pub length-keyExpansion : (key : List ℕ) → keySize (length key) ≡ true → length (keyExpansion key) ≡ 16 * (Nr key + 1)
+unfolding keyExpansion
+length-keyExpansion key h =
+    let s = key-sizes (length key) h in
+    let long : (n : ℕ) → length (expanded (Nk key) key n) ≡ 4 * (Nk key + n) = length-expanded (Nk key) key (omega arith) (omega arith) in
+    rw long (omega arith)
+
+-- eleven round keys of a key of 16 bytes, fifteen of one of 32
+pub round-key-count : (key : List ℕ)
+    → (length key ≡ 16 → length (keyExpansion key) ≡ 16 * 11) × (length key ≡ 32 → length (keyExpansion key) ≡ 16 * 15)
+round-key-count key =
+    (λ h. length-keyExpansion key (ap keySize h) ∙ omega arith, λ h. length-keyExpansion key (ap keySize h) ∙ omega arith)
 
 -- the words before w[i] make it, whatever stands after them
 word-append : (p q : List ℕ) (j : ℕ) → 4 * j + 4 ≤ length p → word (p ++ q) j ≡ word p j
@@ -180,13 +191,22 @@ bytes-expanded nk key b (suc n) =
     let h : Bytes e = bytes-expanded nk key b n in
     let w : (i : ℕ) → Bytes (word e i) = λ i. bytes-take 4 (drop (4 * i) e) (bytes-drop (4 * i) e h) in
     let t : List ℕ = temp nk (nk + n) (word e (nk + n - 1)) in
-    bytes-append e (word e (nk + n - nk) ⊕ t) h (bytes-⊕ (word e (nk + n - nk)) t (w (nk + n - nk)) (bytes-temp nk (nk + n) (word e (nk + n - 1)) (w (nk + n - 1))))
+    bytes-append e (word e (nk + n - nk) ⊕ t) h
+    (bytes-⊕ (word e (nk + n - nk)) t (w (nk + n - nk)) (bytes-temp nk (nk + n) (word e (nk + n - 1)) (w (nk + n - 1))))
 
 -- ---- the round keys
 
-pub length-roundKeys : (key : List ℕ) → length (roundKeys key) ≡ 15
+-- the round key of each round, 0 to Nr, is the schedule's own
+pub round-key-words : (key : List ℕ) → keySize (length key) ≡ true → (j : ℕ) → j ≤ Nr key
+    → getD (roundKeys key) j [] ≡ blockAt (keyExpansion key) (16 * j)
 unfolding roundKeys
-length-roundKeys key = refl
+round-key-words key h j l =
+    let w : List ℕ = keyExpansion key in
+    let z : List ℕ = replicate (240 - 16 * (Nr key + 1)) 0 in
+    let e : length w ≡ 16 * (Nr key + 1) = length-keyExpansion key h in
+    getD-tab 15 (λ j. blockAt (w ++ z) (16 * j)) j [] (omega (arith, key-sizes (length key) h))
+    ∙ ap (λ (v : List ℕ). take 16 v) (drop-append-le (16 * j) w z (omega arith))
+    ∙ take-append-le 16 (drop (16 * j) w) z (omega (arith, length-drop (16 * j) w))
 
 pub round-keys-blocks : (key : List ℕ) → keySize (length key) ≡ true → Bytes key → (j : ℕ) → j < 15 → Block (getD (roundKeys key) j [])
 unfolding keyExpansion roundKeys
@@ -195,10 +215,13 @@ round-keys-blocks key h b j l =
     let n : ℕ = 4 * (Nr key + 1) - Nk key in
     let z : ℕ = 240 - 16 * (Nr key + 1) in
     let e : length (padded key) ≡ 240 =
-    length-append (expanded (Nk key) key n) (replicate z 0)
-    ∙ omega (arith, length-expanded (Nk key) key (omega arith) (omega arith) n, length-replicate {A = ℕ} z 0) in
+    length-append (keyExpansion key) (replicate z 0)
+    ∙ omega (arith, length-keyExpansion key h, length-replicate {A = ℕ} z 0) in
     subst Block (sym (getD-tab 15 (λ j. blockAt (padded key) (16 * j)) j [] l))
     (record {
       size = length-blockAt (padded key) (16 * j) (omega arith);
-      bytes = bytes-take 16 (drop (16 * j) (padded key)) (bytes-drop (16 * j) (padded key) (bytes-append (keyExpansion key) (replicate z 0) (bytes-expanded (Nk key) key b n) (bytes-zeros z)));
+      bytes =
+          bytes-take 16 (drop (16 * j) (padded key))
+          (bytes-drop (16 * j) (padded key)
+          (bytes-append (keyExpansion key) (replicate z 0) (bytes-expanded (Nk key) key b n) (bytes-zeros z)));
     })

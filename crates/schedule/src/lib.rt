@@ -35,21 +35,9 @@ pub fn key_setup(key: &[u8]) -> [[u8; 16]; 15]
 {
     let mut w = [0u8; 240];
     let n = key.len();
-    put(&mut w, key);
+    block::copy(&mut w, 0, key);
     expand(&mut w, n / 4);
     round_keys(&w)
-}
-
-// The key's bytes at the front of w.
-fn put(w: &mut [u8], key: &[u8])
-    requires { ⌜ length (now key) ≤ length (now w) ⌝ }
-    ensures { λ _. ⌜ now (w .exit) ≡ now (key .entry) ++ drop (length (now (key .entry))) (now (w .entry)) ⌝ }
-{
-    let mut i = 0;
-    while i < key.len() {
-        w[i] = key[i];
-        i += 1;
-    }
 }
 
 // The words after the key's nk, up to those of the last round.

@@ -4,20 +4,20 @@ ghost use mathlib.Core.Path.{_≡_};
 ghost use Prim.Native.Nat.{_≤_, _<_};
 ghost use lib.ListN.{length};
 ghost use Rattle.block.specs.Blocks.{onBlocks};
-ghost use Rattle.cipher.specs.Cipher.{crypted};
+ghost use Rattle.aes.specs.Aes.{crypted};
 ghost use Rattle.mode.specs.Wide.{wide};
 ghost use Rattle.wide.specs.Passes.{masked};
 use super::mixing::mix;
 
 // The message s becomes its wide block under L and T_star; with `back`, what it is the wide block of.
-pub fn wide(back: bool, w: [[u8; 16]; 15], nr: usize, l: [u8; 16], t: [u8; 16], s: &mut [u8])
+pub fn wide(back: bool, keys: [[u8; 16]; 15], nr: usize, l: [u8; 16], t: [u8; 16], s: &mut [u8])
     requires { ⌜ (0 < nr) × (nr < 15) × (16 ≤ length (now s)) ⌝ }
-    ensures { λ _. ⌜ now (s .exit) ≡ wide (crypted back w nr) l t (now (s .entry)) ⌝ }
+    ensures { λ _. ⌜ now (s .exit) ≡ wide (crypted back keys nr) l t (now (s .entry)) ⌝ }
 {
     mask(s, l);
-    aes::crypt_blocks(back, w, nr, s);
-    mix(back, w, nr, t, s);
-    aes::crypt_blocks(back, w, nr, s);
+    aes::crypt_blocks(back, keys, nr, s);
+    mix(back, keys, nr, t, s);
+    aes::crypt_blocks(back, keys, nr, s);
     mask(s, l);
 }
 

@@ -69,7 +69,7 @@ returns-3 c =
     (st .put .ensures
     ∙ over (a .back) k b (ks .before .if2 .left) (lo .load .result) (cr .crypt .result) (lo .load .ensures)
     (cr .crypt .ensures
-    ∙ ap₂ (λ (w : List (List ℕ)) (n : ℕ). crypted (a .back) w n (lo .load .result)) (ks .key-setup .ensures) (ro .rounds-of .ensures)))
+    ∙ ap₂ (λ (keys : List (List ℕ)) (n : ℕ). crypted (a .back) keys n (lo .load .result)) (ks .key-setup .ensures) (ro .rounds-of .ensures)))
 
 pub call-spec : {M : Type 1} → statement M
 call-spec =

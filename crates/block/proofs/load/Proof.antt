@@ -51,7 +51,8 @@ returns : tie.Need-returns Inv-loop μ-loop
 returns c =
     let a = c .before .before .args in
     c .before .loop .inv .1
-    ∙ fill-done (blockAt (a .s .now) (a .at)) (replicate 16 0) 16 (c .before .loop .i) (length-blockAt (a .s .now) (a .at) (omega arith)) refl (omega arith) (omega arith)
+    ∙ fill-done (blockAt (a .s .now) (a .at)) (replicate 16 0) 16 (c .before .loop .i) (length-blockAt (a .s .now) (a .at) (omega arith)) refl
+    (omega arith) (omega arith)
 
 pub load-spec : {M : Type 1} → statement M
 load-spec =

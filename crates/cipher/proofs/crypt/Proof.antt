@@ -16,12 +16,12 @@ forward-requires c κs = search needs
 returns : tie.Need-returns
 returns c =
     let a = c .before .before .args in
-    c .inverse .ensures ∙ ap (λ (t : Bool). crypted t (a .w) (a .nr) (a .b)) (sym (c .before .if1 .taken))
+    c .inverse .ensures ∙ ap (λ (t : Bool). crypted t (a .keys) (a .nr) (a .b)) (sym (c .before .if1 .taken))
 
 returns-2 : tie.Need-returns-2
 returns-2 c =
     let a = c .before .before .args in
-    c .forward .ensures ∙ ap (λ (t : Bool). crypted t (a .w) (a .nr) (a .b)) (sym (c .before .if1 .left))
+    c .forward .ensures ∙ ap (λ (t : Bool). crypted t (a .keys) (a .nr) (a .b)) (sym (c .before .if1 .left))
 
 pub crypt-spec : {M : Type 1} → statement M
 crypt-spec = tie.close (tie.spec inverse-requires forward-requires returns returns-2)

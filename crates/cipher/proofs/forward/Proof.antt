@@ -8,16 +8,16 @@ use borrow.Author.Needs.{needs}
 use Rattle.block.specs.Xor.{_⊕_}
 use Rattle.sbox.specs.Sub.{subBytes}
 use Rattle.rounds.specs.Steps.{shiftRows, mixColumns}
-use Rattle.cipher.specs.Cipher.{key, throughRounds, cipher}
+use Rattle.cipher.specs.Cipher.{roundKey, throughRounds, cipher}
 use Rattle.cipher.proofs.RoundLaws.{no-round, round-done}
 use Rattle.cipher.proofs.forward.Statement.{statement}
 use Rattle.cipher.proofs.forward.Tie as tie
 
 abbrev Inv-loop : tie.InvT-loop
-Inv-loop nr w s₀ j₀ s j = (1 ≤ j) × (j ≤ nr) × (s ≡ throughRounds w (j - 1) s₀)
+Inv-loop nr keys s₀ j₀ s j = (1 ≤ j) × (j ≤ nr) × (s ≡ throughRounds keys (j - 1) s₀)
 
 abbrev μ-loop : tie.MeasureT-loop
-μ-loop nr w s₀ j₀ s j = nr - j
+μ-loop nr keys s₀ j₀ s j = nr - j
 
 array-copy-out-xor : tie.Need-array-copy-out-xor Inv-loop μ-loop
 array-copy-out-xor c = omega arith
@@ -55,14 +55,17 @@ loop-less c = omega arith
 loop-again : tie.Need-loop-again Inv-loop μ-loop
 loop-again c =
     let k = c .before .before .before .before .before .before in
-    let j = k .loop .j in (
+    let j = k .loop .j in
+    let keys = k .before .before .before .args .t1 in (
       omega arith,
       omega arith,
       c .xor2 .ensures
-          ∙ ap (λ (t : List ℕ). t ⊕ key (k .before .before .before .args .t1) j)
+          ∙ ap (λ (t : List ℕ). t ⊕ roundKey keys j)
           (c .before .before .mix-columns .ensures
-          ∙ ap mixColumns (c .before .before .before .shift-rows .ensures ∙ ap shiftRows (c .before .before .before .before .sub-bytes .ensures ∙ ap subBytes (k .loop .inv .2))))
-          ∙ round-done (k .before .before .before .args .t1) j (k .before .xor .result) (omega arith),
+          ∙ ap mixColumns
+          (c .before .before .before .shift-rows .ensures
+          ∙ ap shiftRows (c .before .before .before .before .sub-bytes .ensures ∙ ap subBytes (k .loop .inv .2))))
+          ∙ round-done keys j (k .before .xor .result) (omega arith),
     )
 
 sub-bytes-requires-2 : tie.Need-sub-bytes-requires-2 Inv-loop μ-loop
@@ -84,15 +87,15 @@ returns : tie.Need-returns Inv-loop μ-loop
 unfolding cipher
 returns c =
     let k = c .before .before .before .before .before in
-    let w = k .before .before .before .args .t1 in
+    let keys = k .before .before .before .args .t1 in
     let nr = k .before .before .before .args .nr in
     let e : k .loop .j - 1 ≡ nr - 1 = omega arith in
     c .xor3 .ensures
-    ∙ ap (λ (t : List ℕ). t ⊕ key w nr)
+    ∙ ap (λ (t : List ℕ). t ⊕ roundKey keys nr)
     (c .before .before .shift-rows2 .ensures
     ∙ ap shiftRows
     (c .before .before .before .sub-bytes2 .ensures
-    ∙ ap subBytes (k .loop .inv .2 ∙ ap₂ (λ (n : ℕ) (s : List ℕ). throughRounds w n s) e (k .before .xor .ensures))))
+    ∙ ap subBytes (k .loop .inv .2 ∙ ap₂ (λ (n : ℕ) (s : List ℕ). throughRounds keys n s) e (k .before .xor .ensures))))
 
 pub forward-spec : {M : Type 1} → statement M
 forward-spec =

@@ -8,16 +8,16 @@ use borrow.Author.Needs.{needs}
 use Rattle.block.specs.Xor.{_⊕_}
 use Rattle.sbox.specs.Sub.{invSubBytes}
 use Rattle.rounds.specs.Steps.{invMixColumns}
-use Rattle.cipher.specs.Cipher.{key, inverseFrom, invCipher}
+use Rattle.cipher.specs.Cipher.{roundKey, inverseFrom, invCipher}
 use Rattle.cipher.proofs.RoundLaws.{round-undone, last-undone}
 use Rattle.cipher.proofs.inverse.Statement.{statement}
 use Rattle.cipher.proofs.inverse.Tie as tie
 
 abbrev Inv-loop : tie.InvT-loop
-Inv-loop nr w s₀ j₀ s j = (j < nr) × (inverseFrom w j s ≡ inverseFrom w (nr - 1) s₀)
+Inv-loop nr keys s₀ j₀ s j = (j < nr) × (inverseFrom keys j s ≡ inverseFrom keys (nr - 1) s₀)
 
 abbrev μ-loop : tie.MeasureT-loop
-μ-loop nr w s₀ j₀ s j = j
+μ-loop nr keys s₀ j₀ s j = j
 
 mul-xor : tie.Need-mul-xor Inv-loop μ-loop
 mul-xor c = omega arith
@@ -62,14 +62,15 @@ loop-again : tie.Need-loop-again Inv-loop μ-loop
 loop-again c =
     let k = c .before .before .before .before .before .before in
     let j = k .loop .j in
-    let w = k .before .before .before .args .t1 in (
+    let keys = k .before .before .before .args .t1 in (
       omega arith,
-      ap (λ (s : List ℕ). inverseFrom w (j - 1) s)
+      ap (λ (s : List ℕ). inverseFrom keys (j - 1) s)
           (c .inv-mix-columns .ensures
           ∙ ap invMixColumns
           (c .before .xor2 .ensures
-          ∙ ap (λ (t : List ℕ). t ⊕ key w j) (c .before .before .before .inv-sub-bytes .ensures ∙ ap invSubBytes (c .before .before .before .before .inv-shift-rows .ensures))))
-          ∙ round-undone w j (k .loop .s) (omega arith)
+          ∙ ap (λ (t : List ℕ). t ⊕ roundKey keys j)
+          (c .before .before .before .inv-sub-bytes .ensures ∙ ap invSubBytes (c .before .before .before .before .inv-shift-rows .ensures))))
+          ∙ round-undone keys j (k .loop .s) (omega arith)
           ∙ k .loop .inv .1,
     )
 
@@ -89,16 +90,16 @@ returns : tie.Need-returns Inv-loop μ-loop
 unfolding invCipher
 returns c =
     let k = c .before .before .before .before .before in
-    let w = k .before .before .before .args .t1 in
+    let keys = k .before .before .before .args .t1 in
     let nr = k .before .before .before .args .nr in
     let e : k .loop .j ≡ 0 = omega arith in
     c .xor3 .ensures
-    ∙ ap (λ (t : List ℕ). t ⊕ key w 0)
+    ∙ ap (λ (t : List ℕ). t ⊕ roundKey keys 0)
     (c .before .before .inv-sub-bytes2 .ensures ∙ ap invSubBytes (c .before .before .before .inv-shift-rows2 .ensures))
-    ∙ last-undone w (k .loop .s)
-    ∙ ap (λ (n : ℕ). inverseFrom w n (k .loop .s)) (sym e)
+    ∙ last-undone keys (k .loop .s)
+    ∙ ap (λ (n : ℕ). inverseFrom keys n (k .loop .s)) (sym e)
     ∙ k .loop .inv .1
-    ∙ ap (λ (s : List ℕ). inverseFrom w (nr - 1) s) (k .before .xor .ensures)
+    ∙ ap (λ (s : List ℕ). inverseFrom keys (nr - 1) s) (k .before .xor .ensures)
 
 pub inverse-spec : {M : Type 1} → statement M
 inverse-spec =

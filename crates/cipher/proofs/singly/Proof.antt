@@ -13,13 +13,13 @@ use Rattle.cipher.proofs.singly.Statement.{statement}
 use Rattle.cipher.proofs.singly.Tie as tie
 
 abbrev Inv-loop : tie.InvT-loop
-Inv-loop back w nr s₀ from at₀ s at =
+Inv-loop back keys nr s₀ from at₀ s at =
     (at ≤ length s)
     × (length s ≡ length s₀)
-    × (take at s ++ onBlocks (map (crypted back w nr)) (drop at s) ≡ take from s₀ ++ onBlocks (map (crypted back w nr)) (drop from s₀))
+    × (take at s ++ onBlocks (map (crypted back keys nr)) (drop at s) ≡ take from s₀ ++ onBlocks (map (crypted back keys nr)) (drop from s₀))
 
 abbrev μ-loop : tie.MeasureT-loop
-μ-loop back w nr s₀ from at₀ s at = length s₀ - at
+μ-loop back keys nr s₀ from at₀ s at = length s₀ - at
 
 loop-holds : tie.Need-loop-holds Inv-loop μ-loop
 loop-holds c = (omega arith, refl, refl)
@@ -48,7 +48,7 @@ loop-again c =
     let cr = st .before in
     let k = cr .before .before .before .before .before in
     let a = k .before .before .args in
-    let f : List ℕ → List ℕ = crypted (a .back) (a .w) (a .nr) in
+    let f : List ℕ → List ℕ = crypted (a .back) (a .keys) (a .nr) in
     let at = k .loop .at in
     let y = cr .crypt .result in
     let n : length (st .put .last .0) ≡ length (k .loop .s) = st .put .kept .0 in (
@@ -66,7 +66,7 @@ same-length c = c .before .loop .inv .1
 returns : tie.Need-returns Inv-loop μ-loop
 returns c =
     let a = c .before .before .before .args in
-    sym (on-done (map (crypted (a .back) (a .w) (a .nr))) (c .before .loop .at) (c .before .loop .s) (omega arith) refl) ∙ c .before .loop .inv .2
+    sym (on-done (map (crypted (a .back) (a .keys) (a .nr))) (c .before .loop .at) (c .before .loop .s) (omega arith) refl) ∙ c .before .loop .inv .2
 
 pub singly-spec : {M : Type 1} → statement M
 singly-spec =

@@ -35,7 +35,8 @@ returns-3 c =
 returns-4 : tie.Need-returns-4
 returns-4 c =
     let a = c .before .before .before .before .before .before .before .before .args in
-    data-above (a .back) (a .key .now) (a .ad .now) (a .message .now) (sized (c .before .before .before)) (c .before .before .if2 .left) (c .before .if3 .left) (c .if4 .taken)
+    data-above (a .back) (a .key .now) (a .ad .now) (a .message .now) (sized (c .before .before .before))
+    (c .before .before .if2 .left) (c .before .if3 .left) (c .if4 .taken)
 
 transform-requires : tie.Need-transform-requires
 transform-requires c κs = (sized (c .before .before .before .before), c .before .before .before .if2 .left)
@@ -48,7 +49,8 @@ returns-5 c =
     let tr = c .before .before in
     let e = tr .before .before in
     let a = e .before .before .before .before .before .before .before .before .args in
-    done (a .back) (a .key .now) (a .ad .now) (a .message .now) (sized (e .before .before .before)) (e .before .before .if2 .left) (e .before .if3 .left) (e .if4 .left)
+    done (a .back) (a .key .now) (a .ad .now) (a .message .now) (sized (e .before .before .before))
+    (e .before .before .if2 .left) (e .before .if3 .left) (e .if4 .left)
     (tr .transform .last .1 .1 .1 .0) (tr .transform .ensures)
 
 pub call-spec : {M : Type 1} → statement M

@@ -6,8 +6,8 @@ use Prim.Native.Nat.{ℕ, _-_, _≤_, _<_}
 use native.Mathlib.Omega.{arith}
 use borrow.Author.Needs.{needs}
 use lib.ListN.{length}
-use Rattle.schedule.specs.Size.{keySize}
-use Rattle.schedule.proofs.Laws.{key-sizes}
+use Rattle.aes.specs.Aes.{keySize}
+use Rattle.aes.specs.Promise.{key-bounds}
 use Rattle.eme2.proofs.KeyLaws.{length-Key1, key1-part, key-long, transformed}
 use Rattle.eme2.proofs.transform.Statement.{statement}
 use Rattle.eme2.proofs.transform.Tie as tie
@@ -42,7 +42,9 @@ load-requires c κs = let p = c .before .before .before .before .before .before 
 
 -- the number of rounds
 rounds : (c : tie.After-rounds-of) → (0 < c .rounds-of .result) × (c .rounds-of .result < 15)
-rounds c = let p = c .before .before .before .before .before .before in omega (arith, c .rounds-of .ensures, key-sizes (length (p .args .key .now) - 32) (p .pre .0))
+rounds c =
+    let p = c .before .before .before .before .before .before in
+    omega (arith, c .rounds-of .ensures, key-bounds (length (p .args .key .now) - 32) (p .pre .0))
 
 t-star-requires : tie.Need-t-star-requires
 t-star-requires c κs = rounds (c .before)
@@ -51,7 +53,9 @@ load-requires-2 : tie.Need-load-requires-2
 load-requires-2 c κs = let p = c .before .before .before .before .before .before .before .before in omega (arith, key-long (p .args .key .now) (p .pre .0))
 
 wide-requires : tie.Need-wide-requires
-wide-requires c κs = let r = rounds (c .before .before .before .before) in (r .0, r .1, c .before .before .before .before .before .before .before .before .before .before .pre .1)
+wide-requires c κs =
+    let r = rounds (c .before .before .before .before) in
+    (r .0, r .1, c .before .before .before .before .before .before .before .before .before .before .pre .1)
 
 same-length : tie.Need-same-length
 same-length c = search needs

@@ -6,8 +6,8 @@ use Prim.Native.Nat.{_<_}
 use native.Mathlib.Omega.{arith}
 use borrow.Author.Tests.{not-false}
 use lib.ListN.{length}
-use Rattle.schedule.specs.Size.{keySize}
-use Rattle.schedule.proofs.Laws.{key-sizes}
+use Rattle.aes.specs.Aes.{keySize}
+use Rattle.aes.specs.Promise.{key-bounds}
 use borrow.Author.Needs.{needs}
 use Rattle.kat.proofs.set_up.Statement.{statement}
 use Rattle.kat.proofs.set_up.Tie as tie
@@ -27,7 +27,7 @@ sized c = sym (c .before .key-size .ensures) ∙ not-false (c .before .key-size 
 
 -- and so at most fourteen rounds
 few : (c : tie.After-rounds-of) → c .rounds-of .result < 15
-few c = omega (arith, c .rounds-of .ensures, key-sizes (length (c .before .before .before .before .before .args .key .now)) (sized (c .before .before)))
+few c = omega (arith, c .rounds-of .ensures, key-bounds (length (c .before .before .before .before .before .args .key .now)) (sized (c .before .before)))
 
 key-setup-requires : tie.Need-key-setup-requires
 key-setup-requires c κs = sized c

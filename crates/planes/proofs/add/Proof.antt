@@ -68,7 +68,9 @@ same-length c = omega arith
 
 returns : tie.Need-returns Inv-loop μ-loop
 unfolding lane
-returns c = made-all (c .before .loop .inv .2) (omega arith) (λ l h. length-⊕ (lane (c .before .before .before .args .s .now) l) (c .before .before .before .args .t2))
+returns c =
+    let a = c .before .before .before .args in
+    made-all (c .before .loop .inv .2) (omega arith) (λ l h. length-⊕ (lane (a .s .now) l) (a .t2))
 
 pub add-spec : {M : Type 1} → statement M
 add-spec =

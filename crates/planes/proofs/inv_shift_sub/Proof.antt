@@ -22,7 +22,8 @@ returns : tie.Need-returns
 unfolding picked invShiftRows invSubBytes
 returns c =
     let k = c .before .before .before .before .before .before in
-    map-lanes invSub (picked 12) (k .before .before .before .before .args .s .now) (k .pick .last .1 .1 .0) (c .before .before .inv-sub-all .last .0) (omega arith)
+    map-lanes invSub (picked 12) (k .before .before .before .before .args .s .now) (k .pick .last .1 .1 .0)
+    (c .before .before .inv-sub-all .last .0) (omega arith)
     (c .before .before .inv-sub-all .ensures) (k .pick .ensures)
 
 pub inv-shift-sub-spec : {M : Type 1} → statement M

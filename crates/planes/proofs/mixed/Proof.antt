@@ -57,7 +57,8 @@ returns c =
     (c .xor4 .ensures
     ∙ ap₂ (λ (u v : List ℕ). u ⊕ v) (k .before .before .each-times-x2 .ensures)
     (c .before .xor3 .ensures
-    ∙ ap₂ (λ (u v : List ℕ). u ⊕ v) (k2 .xor .ensures ∙ ap (λ (u : List ℕ). u ⊕ y .result) (k2 .before .each-times-x .ensures)) (c .before .before .xor2 .ensures)))
+    ∙ ap₂ (λ (u v : List ℕ). u ⊕ v) (k2 .xor .ensures ∙ ap (λ (u : List ℕ). u ⊕ y .result) (k2 .before .each-times-x .ensures))
+    (c .before .before .xor2 .ensures)))
     ∙ mix-plane (a .s .now) (x .result) (y .result) (z .result) (w .result) (a .p) (omega arith)
     (array-block (y .result) _ (y .ok) .size)
     (array-block (z .result) _ (z .ok) .size)

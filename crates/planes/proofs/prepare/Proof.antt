@@ -38,7 +38,8 @@ loop-again : tie.Need-loop-again Inv-loop μ-loop
 loop-again c =
     let y = c .before .before .before .prepared in
     let k = c .before .before .before .before .before .before in
-    (omega arith, made-more (k .loop .inv .1) (omega arith) (y .result) (array-block (y .result) _ (y .ok) .size) (c .before .before .put .ensures) (y .ensures))
+    let n = array-block (y .result) _ (y .ok) .size in
+    (omega arith, made-more (k .loop .inv .1) (omega arith) (y .result) n (c .before .before .put .ensures) (y .ensures))
 
 same-length : tie.Need-same-length Inv-loop μ-loop
 same-length c = omega arith

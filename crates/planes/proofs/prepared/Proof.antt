@@ -42,7 +42,8 @@ returns c =
     (c .xor2 .ensures
     ∙ ap (λ (u : List ℕ). x .result ⊕ u)
     (c .before .each-times-x2 .ensures ∙ ap eachTimesX (c .before .before .each-times-x .ensures ∙ ap eachTimesX (k .xor .ensures))))
-    ∙ prepare-plane (a .s .now) (x .result) (z .result) (a .p) (omega arith) (array-block (x .result) _ (x .ok)) (array-block (z .result) _ (z .ok)) (x .ensures) (z .ensures) l h
+    ∙ prepare-plane (a .s .now) (x .result) (z .result) (a .p) (omega arith) (array-block (x .result) _ (x .ok)) (array-block (z .result) _ (z .ok))
+    (x .ensures) (z .ensures) l h
 
 pub prepared-spec : {M : Type 1} → statement M
 prepared-spec =

@@ -9,10 +9,8 @@ use borrow.Author.Needs.{needs}
 use borrow.Author.Tests.{not-true, not-false}
 use lib.ListN.{length}
 use Rattle.block.specs.Blocks.{onBlocks}
-use Rattle.schedule.specs.Size.{keySize}
-use Rattle.schedule.proofs.Laws.{key-sizes}
-use Rattle.cipher.specs.Cipher.{crypted}
-use Rattle.aes.specs.Aes.{aes}
+use Rattle.aes.specs.Aes.{keySize, crypted, aes}
+use Rattle.aes.specs.Promise.{key-bounds, crypted-aes}
 use Rattle.probe.proofs.lagunedo_probe_aes_blocks.Statement.{statement}
 use Rattle.probe.proofs.lagunedo_probe_aes_blocks.Tie as tie
 
@@ -39,22 +37,23 @@ rounds-of-requires c κs = search needs
 crypt-blocks-requires : tie.Need-crypt-blocks-requires
 crypt-blocks-requires c κs =
     let e = c .before .before .before in
-    omega (arith, c .before .rounds-of .ensures, key-sizes (length (e .before .before .before .before .args .key .now)) (sized e))
+    omega (arith, c .before .rounds-of .ensures, key-bounds (length (e .before .before .before .before .args .key .now)) (sized e))
 
 same-length : tie.Need-same-length
 same-length c = search needs
 
 returns-2 : tie.Need-returns-2
-unfolding aes
 returns-2 c =
     let cb = c .before .before in
     let ro = cb .before .before in
     let e = ro .before .before in
-    let a = e .before .before .before .before .args in (
+    let a = e .before .before .before .before .args in
+    let s : List ℕ = a .buffer .now in (
       ap (λ (t : Bool). cond t 0 1) (sym (sized e)),
       cb .crypt-blocks .ensures
-          ∙ ap₂ (λ (w : List (List ℕ)) (n : ℕ). onBlocks (map (crypted (a .back) w n)) (a .buffer .now)) (ro .before .key-setup .ensures) (ro .rounds-of .ensures)
-          ∙ ap (λ (t : Bool). cond t (onBlocks (map (aes (a .back) (a .key .now))) (a .buffer .now)) (a .buffer .now)) (sym (sized e)),
+          ∙ ap₂ (λ (keys : List (List ℕ)) (n : ℕ). onBlocks (map (crypted (a .back) keys n)) s) (ro .before .key-setup .ensures) (ro .rounds-of .ensures)
+          ∙ ap (λ (f : List ℕ → List ℕ). onBlocks (map f) s) (λ i x. crypted-aes (a .back) (a .key .now) x i)
+          ∙ ap (λ (t : Bool). cond t (onBlocks (map (aes (a .back) (a .key .now))) s) s) (sym (sized e)),
     )
 
 pub lagunedo-probe-aes-blocks-spec : {M : Type 1} → statement M

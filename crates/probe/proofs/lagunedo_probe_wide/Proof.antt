@@ -8,8 +8,8 @@ use native.Mathlib.Omega.{arith}
 use borrow.Author.Needs.{needs}
 use borrow.Author.Tests.{not-true, not-false}
 use lib.ListN.{length}
-use Rattle.schedule.specs.Size.{keySize}
-use Rattle.schedule.proofs.Laws.{key-sizes}
+use Rattle.aes.specs.Aes.{keySize}
+use Rattle.aes.specs.Promise.{key-bounds}
 use Rattle.probe.proofs.WideLadder.{key-refused, L-refused, T-refused, message-refused, done, over}
 use Rattle.probe.proofs.lagunedo_probe_wide.Statement.{statement}
 use Rattle.probe.proofs.lagunedo_probe_wide.Tie as tie
@@ -40,7 +40,8 @@ returns-3 c =
 returns-4 : tie.Need-returns-4
 returns-4 c =
     let a = c .before .before .before .before .before .before .before .before .before .args in
-    message-refused (a .back) (a .key .now) (a .l .now) (a .t .now) (a .message .now) (sized (c .before .before .before)) (c .before .before .if2 .left) (c .before .if3 .left) (c .if4 .taken)
+    message-refused (a .back) (a .key .now) (a .l .now) (a .t .now) (a .message .now) (sized (c .before .before .before))
+    (c .before .before .if2 .left) (c .before .if3 .left) (c .if4 .taken)
 
 key-setup-requires : tie.Need-key-setup-requires
 key-setup-requires c κs = sized (c .before .before .before)
@@ -59,7 +60,8 @@ wide-requires c κs =
     let ro = c .before .before .before in
     let e = ro .before .before in
     let s = sized (e .before .before .before) in
-    omega (arith, ro .rounds-of .ensures, key-sizes (length (e .before .before .before .before .before .before .before .before .before .args .key .now)) s, e .if4 .left)
+    let k = e .before .before .before .before .before .before .before .before .before .args .key .now in
+    omega (arith, ro .rounds-of .ensures, key-bounds (length k) s, e .if4 .left)
 
 same-length : tie.Need-same-length
 same-length c = search needs
@@ -74,9 +76,11 @@ returns-5 c =
     let e = ks .before in
     let a = e .before .before .before .before .before .before .before .before .before .args in
     let m′ : List ℕ = wd .wide .last .1 .1 .1 .1 .1 .0 in
-    done (a .back) (a .key .now) (a .l .now) (a .t .now) (a .message .now) (sized (e .before .before .before)) (e .before .before .if2 .left) (e .before .if3 .left) (e .if4 .left) m′
-    (over (a .back) (a .key .now) (a .l .now) (a .t .now) (a .message .now) (e .before .before .if2 .left) (e .before .if3 .left) (ks .key-setup .result) (ro .rounds-of .result)
-    (l1 .load .result) (l2 .load2 .result) m′ (ks .key-setup .ensures) (ro .rounds-of .ensures) (l1 .load .ensures) (l2 .load2 .ensures) (wd .wide .ensures))
+    done (a .back) (a .key .now) (a .l .now) (a .t .now) (a .message .now) (sized (e .before .before .before))
+    (e .before .before .if2 .left) (e .before .if3 .left) (e .if4 .left) m′
+    (over (a .back) (a .key .now) (a .l .now) (a .t .now) (a .message .now) (e .before .before .if2 .left) (e .before .if3 .left)
+    (ks .key-setup .result) (ro .rounds-of .result) (l1 .load .result) (l2 .load2 .result) m′
+    (ks .key-setup .ensures) (ro .rounds-of .ensures) (l1 .load .ensures) (l2 .load2 .ensures) (wd .wide .ensures))
 
 pub lagunedo-probe-wide-spec : {M : Type 1} → statement M
 lagunedo-probe-wide-spec =

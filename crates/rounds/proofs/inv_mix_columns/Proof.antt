@@ -44,7 +44,9 @@ returns c =
     ∙ ap mixColumns
     (c .before .xor2 .ensures
     ∙ prepared s (both .result) (x4 .result) b
-    (both .ensures ∙ ap (λ (u : List ℕ). s ⊕ u) (c .before .before .before .before .before .turned2 .ensures ∙ ap columnsTurned (c .before .before .before .before .before .before .turned .ensures)))
+    (both .ensures
+    ∙ ap (λ (u : List ℕ). s ⊕ u)
+    (c .before .before .before .before .before .turned2 .ensures ∙ ap columnsTurned (c .before .before .before .before .before .before .turned .ensures)))
     (x4 .ensures ∙ ap eachTimesX (c .before .before .before .each-times-x .ensures)))
     ∙ inv-mix-by-mix s b
 

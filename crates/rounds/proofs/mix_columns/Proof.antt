@@ -44,7 +44,9 @@ returns c =
     c .xor4 .ensures
     ∙ ap (λ (u : List ℕ). x2 .result ⊕ u)
     (c .before .turned3 .ensures
-    ∙ ap columnsTurned (c .before .before .xor3 .ensures ∙ ap₂ (λ (u v : List ℕ). u ⊕ v) (c .before .before .before .before .xor2 .ensures) (c .before .before .before .turned2 .ensures)))
+    ∙ ap columnsTurned
+    (c .before .before .xor3 .ensures
+    ∙ ap₂ (λ (u v : List ℕ). u ⊕ v) (c .before .before .before .before .xor2 .ensures) (c .before .before .before .turned2 .ensures)))
     ∙ mix-by-turning s (x2 .result) (last .result) (array-block s _ (k .good .0) .size) (x2 .ensures)
     (last .ensures ∙ ap (λ (u : List ℕ). s ⊕ u) (c .before .before .before .before .before .before .turned .ensures))
 

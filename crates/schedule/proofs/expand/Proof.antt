@@ -57,7 +57,8 @@ loop-again c =
       omega arith,
       p .put-word .kept .0 ∙ k .loop .inv .2,
       p .put-word .ensures
-          ∙ ap₂ (λ (w t : List ℕ). take (4 * i) w ++ t ++ drop (4 * i + 4) w) (k .loop .inv .3) (n .next-word .ensures ∙ ap (λ (w : List ℕ). nextWord (a .nk) i w) (k .loop .inv .3))
+          ∙ ap₂ (λ (w t : List ℕ). take (4 * i) w ++ t ++ drop (4 * i + 4) w) (k .loop .inv .3)
+          (n .next-word .ensures ∙ ap (λ (w : List ℕ). nextWord (a .nk) i w) (k .loop .inv .3))
           ∙ made-turn (a .nk) i w₀ (omega arith) (omega arith) (omega arith),
     )
 

@@ -66,18 +66,38 @@ fn keys() {
     assert_eq!(ended, [0, 4 * 75, 0, 0]);
 }
 
+/// Lengths that would be taken if only their lower bits were looked at stand
+/// among the messages and the data.
+const FOLDED_MESSAGES: [usize; 5] = [
+    (1 << 17) + 100,
+    (1 << 20) + 16,
+    (1 << 20) + 2_096,
+    (1 << 21) + 65_536,
+    (1 << 24) + 47,
+];
+const FOLDED_DATA: [usize; 5] = [
+    1 << 16,
+    (1 << 16) + 16,
+    (1 << 17) + 1_024,
+    (1 << 20) + 1,
+    (1 << 24) + 5,
+];
+
 #[test]
 fn messages() {
-    let bad: Vec<usize> = (0..=15).chain([65_537, 65_552, 70_000, 131_072]).collect();
+    let bad: Vec<usize> = (0..=15)
+        .chain([65_537, 65_552, 70_000])
+        .chain(FOLDED_MESSAGES)
+        .collect();
     let ended = combinations(&[48, 64], &[0, 16, 1_024], &bad, SEED + 1_000);
-    assert_eq!(ended, [0, 0, 6 * 20, 0]);
+    assert_eq!(ended, [0, 0, 6 * 24, 0]);
 }
 
 #[test]
 fn data() {
-    let bad = [1_025, 1_040, 2_000, 65_536];
+    let bad = [&[1_025, 1_040, 2_000], &FOLDED_DATA[..]].concat();
     let ended = combinations(&[48, 64], &bad, &[16, 17, 2_096, 65_536], SEED + 2_000);
-    assert_eq!(ended, [0, 0, 0, 2 * 4 * 4]);
+    assert_eq!(ended, [0, 0, 0, 2 * 8 * 4]);
 }
 
 /// Each of the three good or bad: all eight combinations, several times over.

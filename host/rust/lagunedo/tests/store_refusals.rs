@@ -158,13 +158,31 @@ fn keys() {
     }
 }
 
-/// Every length of a text, from none to beyond the longest.
+/// Stores of one slot too many, and of so many that the lowest 20 bits of
+/// their length are those of a store of five slots.
+#[test]
+fn sizes() {
+    for what in [What::Check, What::Add] {
+        for slots in [1_025, (1 << 14) + 5] {
+            let (call, mut memory) = good(what, &mut Random::new(SEED));
+            memory.store.resize(slots * RECORD, 0);
+            let name = || format!("{slots} slots");
+            let (number, after) = agree(&call, &memory, slots, &name);
+            assert_eq!(number, 4, "{what:?}, {}", name());
+            assert!(after == memory, "{what:?}, {}", name());
+        }
+    }
+}
+
+/// Every length of a text, from none to beyond the longest, and some of which
+/// the lower bits are those of a text that is taken.
 #[test]
 fn texts() {
     let lengths = || {
         (0..=20)
             .chain(2_090..=2_100)
             .chain([4_096, 65_535, 65_536, 65_552])
+            .chain([(1 << 20) + 16, (1 << 24) + 2_096])
     };
     for what in [What::Add, What::Revise] {
         for length in lengths() {

@@ -10,8 +10,8 @@ use lib.ListN.{length, take, drop, replicate, length-drop}
 use lib.Seq.{drop-drop}
 use Rattle.block.specs.Xor.{_⊕_}
 use Rattle.block.specs.Double.{double}
-use Rattle.cipher.specs.Cipher.{crypted}
-use Rattle.cipher.proofs.Undo.{length-crypted}
+use Rattle.aes.specs.Aes.{crypted}
+use Rattle.aes.specs.Promise.{length-crypted}
 use Rattle.mode.specs.Wide.{total}
 use Rattle.mode.specs.TStar.{shortTT, eme2TStar}
 use Rattle.wide.proofs.AssociatedLaws.{left, left-turn, left-end, none-left, some-left, star-empty, star-start}
@@ -19,11 +19,11 @@ use Rattle.wide.proofs.associated.t_star.Statement.{statement}
 use Rattle.wide.proofs.associated.t_star.Tie as tie
 
 abbrev Inv-loop : tie.InvT-loop
-Inv-loop w nr ad m₀ sum₀ at₀ m sum at =
-    (at ≤ length ad) × (left (crypted false w nr) sum m (drop at ad) ≡ left (crypted false w nr) (replicate 16 0) m₀ ad)
+Inv-loop keys nr ad m₀ sum₀ at₀ m sum at =
+    (at ≤ length ad) × (left (crypted false keys nr) sum m (drop at ad) ≡ left (crypted false keys nr) (replicate 16 0) m₀ ad)
 
 abbrev μ-loop : tie.MeasureT-loop
-μ-loop w nr ad m₀ sum₀ at₀ m sum at = length ad - at
+μ-loop keys nr ad m₀ sum₀ at₀ m sum at = length ad - at
 
 crypt-requires : tie.Need-crypt-requires Inv-loop μ-loop
 crypt-requires c κs = search needs
@@ -31,7 +31,7 @@ crypt-requires c κs = search needs
 returns : tie.Need-returns Inv-loop μ-loop
 returns c =
     let a = c .before .before .before .args in
-    c .crypt .ensures ∙ sym (star-empty (crypted false (a .w) (a .nr)) (a .key3) (a .ad .now) (c .before .if1 .taken))
+    c .crypt .ensures ∙ sym (star-empty (crypted false (a .keys) (a .nr)) (a .key3) (a .ad .now) (c .before .if1 .taken))
 
 doubled-requires : tie.Need-doubled-requires Inv-loop μ-loop
 doubled-requires c κs = search needs
@@ -64,7 +64,7 @@ loop-again : tie.Need-loop-again Inv-loop μ-loop
 loop-again c =
     let k = c .before .before .before .before .before in
     let a = c .before .before .before .before .before .before .before .before .before .args in
-    let f : List ℕ → List ℕ = crypted false (a .w) (a .nr) in
+    let f : List ℕ → List ℕ = crypted false (a .keys) (a .nr) in
     let at : ℕ = k .loop .at in
     let m : List ℕ = k .loop .m in
     let sum : List ℕ = k .loop .sum in
@@ -83,18 +83,18 @@ loop-again c =
 -- what is left after the loop is T_star
 whole : (c : tie.After-loop Inv-loop μ-loop)
     → total (c .before .loop .sum)
-    (shortTT (crypted false (c .before .before .before .before .before .args .w) (c .before .before .before .before .before .args .nr))
+    (shortTT (crypted false (c .before .before .before .before .before .args .keys) (c .before .before .before .before .before .args .nr))
     (double (c .before .loop .m)) (drop (c .before .loop .at) (c .before .before .before .before .before .args .ad .now)))
-    ≡ eme2TStar (crypted false (c .before .before .before .before .before .args .w) (c .before .before .before .before .before .args .nr))
+    ≡ eme2TStar (crypted false (c .before .before .before .before .before .args .keys) (c .before .before .before .before .before .args .nr))
     (c .before .before .before .before .before .args .key3) (c .before .before .before .before .before .args .ad .now)
 whole c =
     let k = c .before in
     let a = k .before .before .before .before .args in
-    let f : List ℕ → List ℕ = crypted false (a .w) (a .nr) in
+    let f : List ℕ → List ℕ = crypted false (a .keys) (a .nr) in
     sym (left-end f (k .loop .sum) (k .loop .m) (drop (k .loop .at) (a .ad .now)) (omega (arith, length-drop (k .loop .at) (a .ad .now))))
     ∙ k .loop .inv .1
     ∙ ap (λ (r : List ℕ). left f (replicate 16 0) r (a .ad .now)) (k .before .doubled .ensures)
-    ∙ sym (star-start f (length-crypted false (a .w) (a .nr)) (a .key3) (a .ad .now) (k .before .before .if1 .left))
+    ∙ sym (star-start f (length-crypted false (a .keys) (a .nr)) (a .key3) (a .ad .now) (k .before .before .if1 .left))
 
 returns-2 : tie.Need-returns-2 Inv-loop μ-loop
 returns-2 c =
@@ -102,7 +102,7 @@ returns-2 c =
     let a = k .before .before .before .before .args in
     let d : List ℕ = drop (k .loop .at) (a .ad .now) in
     let n : length d ≡ 0 = length-drop (k .loop .at) (a .ad .now) ∙ omega arith in
-    sym (none-left (crypted false (a .w) (a .nr)) (k .loop .sum) (double (k .loop .m)) d n) ∙ whole (c .before)
+    sym (none-left (crypted false (a .keys) (a .nr)) (k .loop .sum) (double (k .loop .m)) d n) ∙ whole (c .before)
 
 doubled-requires-3 : tie.Need-doubled-requires-3 Inv-loop μ-loop
 doubled-requires-3 c κs = search needs
@@ -120,7 +120,7 @@ returns-3 : tie.Need-returns-3 Inv-loop μ-loop
 returns-3 c =
     let k = c .before .before .before .before .before .before in
     let a = k .before .before .before .before .args in
-    let f : List ℕ → List ℕ = crypted false (a .w) (a .nr) in
+    let f : List ℕ → List ℕ = crypted false (a .keys) (a .nr) in
     let d : List ℕ = drop (k .loop .at) (a .ad .now) in
     let n : 0 < length d = omega (arith, length-drop (k .loop .at) (a .ad .now)) in
     c .xor2 .ensures

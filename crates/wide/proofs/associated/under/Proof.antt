@@ -5,7 +5,7 @@ use mathlib.Core.Bool.{false}
 use mathlib.Core.List.{List}
 use Prim.Native.Nat.{ℕ}
 use Rattle.block.specs.Xor.{_⊕_}
-use Rattle.cipher.specs.Cipher.{crypted}
+use Rattle.aes.specs.Aes.{crypted}
 use borrow.Author.Needs.{needs}
 use Rattle.wide.proofs.associated.under.Statement.{statement}
 use Rattle.wide.proofs.associated.under.Tie as tie
@@ -23,7 +23,7 @@ returns : tie.Need-returns
 returns c =
     let a = c .before .before .before .args in
     c .xor2 .ensures
-    ∙ ap (λ (x : List ℕ). x ⊕ a .m) (c .before .crypt .ensures ∙ ap (crypted false (a .w) (a .nr)) (c .before .before .xor .ensures))
+    ∙ ap (λ (x : List ℕ). x ⊕ a .m) (c .before .crypt .ensures ∙ ap (crypted false (a .keys) (a .nr)) (c .before .before .xor .ensures))
 
 pub under-spec : {M : Type 1} → statement M
 under-spec = tie.close (tie.spec xor-requires crypt-requires xor-requires-2 returns)

@@ -7,22 +7,22 @@ use native.Mathlib.Omega.{arith}
 use lib.ListN.{length, take, drop}
 use Rattle.block.specs.Blocks.{blockAt, onBlocks}
 use Rattle.block.proofs.BlockLaws.{length-blockAt, on-turn, on-done}
-use Rattle.cipher.specs.Cipher.{crypted}
-use Rattle.cipher.proofs.Undo.{length-crypted}
+use Rattle.aes.specs.Aes.{crypted}
+use Rattle.aes.specs.Promise.{length-crypted}
 use Rattle.mode.specs.Wide.{cccOf, middle}
 use Rattle.wide.proofs.MixLaws.{length-ccc}
 use Rattle.wide.proofs.masks.blocks.Statement.{statement}
 use Rattle.wide.proofs.masks.blocks.Tie as tie
 
 abbrev Inv-loop : tie.InvT-loop
-Inv-loop back w nr m1 s₀ m₀ at₀ s m at =
+Inv-loop back keys nr m1 s₀ m₀ at₀ s m at =
     (at ≤ length s)
     × (length s ≡ length s₀)
-    × (take at s ++ onBlocks (middle (crypted back w nr) m1 (at / 16 + 1) m) (drop at s)
-    ≡ take 16 s₀ ++ onBlocks (middle (crypted back w nr) m1 2 m1) (drop 16 s₀))
+    × (take at s ++ onBlocks (middle (crypted back keys nr) m1 (at / 16 + 1) m) (drop at s)
+    ≡ take 16 s₀ ++ onBlocks (middle (crypted back keys nr) m1 2 m1) (drop 16 s₀))
 
 abbrev μ-loop : tie.MeasureT-loop
-μ-loop back w nr m1 s₀ m₀ at₀ s m at = length s₀ - at
+μ-loop back keys nr m1 s₀ m₀ at₀ s m at = length s₀ - at
 
 loop-holds : tie.Need-loop-holds Inv-loop μ-loop
 loop-holds c = (omega arith, refl, refl)
@@ -45,7 +45,7 @@ loop-again c =
     let o = c .before .before in
     let k = o .before .before .before in
     let a = k .before .before .args in
-    let f : List ℕ → List ℕ = crypted (a .back) (a .w) (a .nr) in
+    let f : List ℕ → List ℕ = crypted (a .back) (a .keys) (a .nr) in
     let s : List ℕ = k .loop .s in
     let at : ℕ = k .loop .at in
     let i : ℕ = at / 16 + 1 in
@@ -54,7 +54,7 @@ loop-again c =
     let y : List ℕ = cccOf f (a .m1) i r X in
     let h : at + 16 ≤ length s = omega arith in
     let n : (at + 16) / 16 + 1 ≡ suc i = omega arith in
-    let l : length y ≡ 16 = length-ccc f (length-crypted (a .back) (a .w) (a .nr)) (a .m1) i r X (length-blockAt s at h) in
+    let l : length y ≡ 16 = length-ccc f (length-crypted (a .back) (a .keys) (a .nr)) (a .m1) i r X (length-blockAt s at h) in
     let kept : length (o .one .last .1 .1 .1 .1 .1 .0) ≡ length s = o .one .kept .1 .1 .1 .1 .1 .0 in (
       omega arith,
       kept ∙ k .loop .inv .1,
@@ -73,7 +73,7 @@ returns c =
     let k = c .before in
     let a = k .before .before .args in
     let at : ℕ = k .loop .at in
-    sym (on-done (middle (crypted (a .back) (a .w) (a .nr)) (a .m1) (at / 16 + 1) (k .loop .m)) at (k .loop .s) (omega arith) refl) ∙ k .loop .inv .2
+    sym (on-done (middle (crypted (a .back) (a .keys) (a .nr)) (a .m1) (at / 16 + 1) (k .loop .m)) at (k .loop .s) (omega arith) refl) ∙ k .loop .inv .2
 
 pub blocks-spec : {M : Type 1} → statement M
 blocks-spec =

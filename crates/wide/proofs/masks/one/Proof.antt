@@ -6,7 +6,7 @@ use Prim.Native.Nat.{ℕ}
 use borrow.Author.Needs.{needs}
 use Rattle.block.specs.Xor.{_⊕_}
 use Rattle.block.specs.Blocks.{blockAt, withBlock}
-use Rattle.cipher.specs.Cipher.{crypted}
+use Rattle.aes.specs.Aes.{crypted}
 use Rattle.wide.proofs.MixLaws.{mask-doubled, mask-new, ccc-doubled, ccc-new}
 use Rattle.wide.proofs.masks.one.Statement.{statement}
 use Rattle.wide.proofs.masks.one.Tie as tie
@@ -34,7 +34,7 @@ returns c =
     let t = db .before in
     let lo = t .before in
     let a = lo .before .before .before .args in
-    let f : List ℕ → List ℕ = crypted (a .back) (a .w) (a .nr) in
+    let f : List ℕ → List ℕ = crypted (a .back) (a .keys) (a .nr) in
     let X : List ℕ = blockAt (a .s .now) (a .at) in
     let n : List ℕ = db .doubled .result in (
       db .doubled .ensures ∙ sym (mask-doubled f (a .m1) (a .at) (a .m) X (t .if1 .taken)),
@@ -70,7 +70,7 @@ returns-2 c =
     let t = x2 .before in
     let lo = t .before in
     let a = lo .before .before .before .args in
-    let f : List ℕ → List ℕ = crypted (a .back) (a .w) (a .nr) in
+    let f : List ℕ → List ℕ = crypted (a .back) (a .keys) (a .nr) in
     let X : List ℕ = blockAt (a .s .now) (a .at) in
     let r : List ℕ = c .xor4 .result in
     let mp : x2 .xor2 .result ≡ X ⊕ a .m1 = x2 .xor2 .ensures ∙ ap (λ (x : List ℕ). x ⊕ a .m1) (lo .load .ensures) in

@@ -7,8 +7,8 @@ use native.Mathlib.Omega.{arith}
 use borrow.Author.Needs.{needs}
 use lib.ListN.{length, drop}
 use Rattle.block.specs.Xor.{_⊕_}
-use Rattle.cipher.specs.Cipher.{crypted}
-use Rattle.cipher.proofs.Undo.{length-crypted}
+use Rattle.aes.specs.Aes.{crypted}
+use Rattle.aes.specs.Promise.{length-crypted}
 use Rattle.wide.specs.Passes.{totalOf}
 use Rattle.wide.proofs.WideLaws.{mixing}
 use Rattle.wide.proofs.mixing.mix.Statement.{statement}
@@ -78,10 +78,10 @@ returns c =
     let a = p .args in
     let s : List ℕ = a .s .now in
     let s2 : List ℕ = sh .short .last .1 .0 in
-    let f : List ℕ → List ℕ = crypted (a .back) (a .w) (a .nr) in
+    let f : List ℕ → List ℕ = crypted (a .back) (a .keys) (a .nr) in
     let h : 16 ≤ length s = p .pre .2 in
     st .put .ensures
-    ∙ mixing f (length-crypted (a .back) (a .w) (a .nr)) (a .t) s h (xo .xor .result) (cr .crypt .result) (mc .mc1 .result) (x2 .xor2 .result)
+    ∙ mixing f (length-crypted (a .back) (a .keys) (a .nr)) (a .t) s h (xo .xor .result) (cr .crypt .result) (mc .mc1 .result) (x2 .xor2 .result)
     (bl .blocks2 .last .1 .1 .1 .1 .0) s2 (x3 .xor3 .result)
     (xo .xor .ensures ∙ ap (λ (x : List ℕ). x ⊕ a .t) (to .total .ensures ∙ ap (λ (x : List ℕ). totalOf x (drop 16 s)) (lo .load .ensures)))
     (cr .crypt .ensures)

@@ -1,4 +1,4 @@
--- `cipher::wide::inverse` meets its contract: of each of the blocks, what is left of the rounds makes what they all make of the first.
+-- `cipher::lanes::inverse` meets its contract: of each of the blocks, what is left of the rounds makes what they all make of the first.
 -- Assumes nothing.
 use mathlib.Core.Path.{_≡_, refl, sym, ap, _∙_}
 use mathlib.Core.List.{List}
@@ -8,20 +8,20 @@ use lib.ListN.{length}
 use Rattle.block.specs.Xor.{_⊕_}
 use Rattle.rounds.specs.Steps.{invMixColumns}
 use Rattle.planes.specs.Lanes.{lane}
-use Rattle.cipher.specs.Cipher.{key, inverseFrom, invCipher}
+use Rattle.cipher.specs.Cipher.{roundKey, inverseFrom, invCipher}
 use Rattle.cipher.proofs.RoundLaws.{round-undone, last-undone}
-use Rattle.cipher.proofs.wide.inverse.Statement.{statement}
-use Rattle.cipher.proofs.wide.inverse.Tie as tie
+use Rattle.cipher.proofs.lanes.inverse.Statement.{statement}
+use Rattle.cipher.proofs.lanes.inverse.Tie as tie
 
 abbrev Inv-loop : tie.InvT-loop
-Inv-loop nr b₀ a₀ w j₀ b a j =
+Inv-loop nr b₀ a₀ keys j₀ b a j =
     (j < nr)
     × (length b ≡ 256)
     × (length a ≡ 256)
-    × ((l : ℕ) → l < 16 → inverseFrom w j (lane b l) ≡ inverseFrom w (nr - 1) (lane b₀ l))
+    × ((l : ℕ) → l < 16 → inverseFrom keys j (lane b l) ≡ inverseFrom keys (nr - 1) (lane b₀ l))
 
 abbrev μ-loop : tie.MeasureT-loop
-μ-loop nr b₀ a₀ w j₀ b a j = j
+μ-loop nr b₀ a₀ keys j₀ b a j = j
 
 mul-add : tie.Need-mul-add Inv-loop μ-loop
 mul-add c = omega arith
@@ -62,16 +62,19 @@ loop-less c = omega arith
 loop-again : tie.Need-loop-again Inv-loop μ-loop
 loop-again c =
     let k = c .before .before .before .before .before .before .before .before .before .before .before .before .before .before .before .before in
-    let w = c .before .before .before .before .before .before .before .before .before .before .before .before .before .before .before .before .before .before .before .before .before .before .before .before .args .t1 in
+    let keys = k .before .before .before .before .before .before .before .before .args .t1 in
     let j = k .loop .j in (
       omega arith,
       omega arith,
       omega arith,
       λ l h.
-          ap (λ (t : List ℕ). inverseFrom w (j - 1) t)
+          ap (λ (t : List ℕ). inverseFrom keys (j - 1) t)
           (c .before .before .inv-mix .ensures l h
-          ∙ ap invMixColumns (c .before .before .before .before .before .before .before .add2 .ensures l h ∙ ap (λ (t : List ℕ). t ⊕ key w j) (c .before .before .before .before .before .before .before .before .before .before .before .before .inv-shift-sub .ensures l h)))
-          ∙ round-undone w j (lane (k .loop .b) l) (omega arith)
+          ∙ ap invMixColumns
+          (c .before .before .before .before .before .before .before .add2 .ensures l h
+          ∙ ap (λ (t : List ℕ). t ⊕ roundKey keys j)
+          (c .before .before .before .before .before .before .before .before .before .before .before .before .inv-shift-sub .ensures l h)))
+          ∙ round-undone keys j (lane (k .loop .b) l) (omega arith)
           ∙ k .loop .inv .3 l h,
     )
 
@@ -94,16 +97,16 @@ returns : tie.Need-returns Inv-loop μ-loop
 unfolding invCipher
 returns c l h =
     let k = c .before .before .before .before .before .before .before .before .before .before .before in
-    let st = c .before .before .before .before .before .before .before .before .before .before .before .before .before .before .before .before .before .before .before in
-    let w = st .args .t1 in
+    let st = k .before .before .before .before .before .before .before .before in
+    let keys = st .args .t1 in
     let nr = st .args .nr in
     let e : k .loop .j ≡ 0 = omega arith in
     c .before .before .add3 .ensures l h
-    ∙ ap (λ (t : List ℕ). t ⊕ key w 0) (c .before .before .before .before .before .before .before .inv-shift-sub2 .ensures l h)
-    ∙ last-undone w (lane (k .loop .b) l)
-    ∙ ap (λ (n : ℕ). inverseFrom w n (lane (k .loop .b) l)) (sym e)
+    ∙ ap (λ (t : List ℕ). t ⊕ roundKey keys 0) (c .before .before .before .before .before .before .before .inv-shift-sub2 .ensures l h)
+    ∙ last-undone keys (lane (k .loop .b) l)
+    ∙ ap (λ (n : ℕ). inverseFrom keys n (lane (k .loop .b) l)) (sym e)
     ∙ k .loop .inv .3 l h
-    ∙ ap (λ (t : List ℕ). inverseFrom w (nr - 1) t) (k .before .before .before .add .ensures l h)
+    ∙ ap (λ (t : List ℕ). inverseFrom keys (nr - 1) t) (k .before .before .before .add .ensures l h)
 
 pub inverse-spec : {M : Type 1} → statement M
 inverse-spec =

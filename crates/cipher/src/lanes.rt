@@ -9,14 +9,16 @@ ghost use Rattle.cipher.specs.Cipher.{cipher, invCipher, crypted};
 
 // Blocks of s from its start on, sixteen at a time and then what is left if it is three or more: fewer are quicker one by one. Answers
 // the place after them.
-pub fn together(back: bool, w: [[u8; 16]; 15], nr: usize, s: &mut [u8]) -> usize
+pub fn together(back: bool, keys: [[u8; 16]; 15], nr: usize, s: &mut [u8]) -> usize
     requires { ⌜ (0 < nr) × (nr < 15) ⌝ }
-    ensures { λ r. ⌜ (r ≤ length (now (s .exit))) × (take r (now (s .exit)) ++ onBlocks (map (crypted back w nr)) (drop r (now (s .exit))) ≡ onBlocks (map (crypted back w nr)) (now (s .entry))) ⌝ }
+    ensures { λ r. ⌜ (r ≤ length (now (s .exit)))
+        × (take r (now (s .exit)) ++ onBlocks (map (crypted back keys nr)) (drop r (now (s .exit)))
+        ≡ onBlocks (map (crypted back keys nr)) (now (s .entry))) ⌝ }
 {
     let mut at = 0;
     while s.len() - at >= 48 {
         let n = at_most_sixteen((s.len() - at) / 16);
-        group(back, w, nr, s, at, n);
+        group(back, keys, nr, s, at, n);
         at += 16 * n;
     }
     at
@@ -30,59 +32,60 @@ fn at_most_sixteen(n: usize) -> usize
 }
 
 // The n blocks of s from `at` on. Every other byte of s is kept.
-fn group(back: bool, w: [[u8; 16]; 15], nr: usize, s: &mut [u8], at: usize, n: usize)
+fn group(back: bool, keys: [[u8; 16]; 15], nr: usize, s: &mut [u8], at: usize, n: usize)
     requires { ⌜ (0 < nr) × (nr < 15) × (n ≤ 16) × (at + 16 * n ≤ length (now s)) ⌝ }
-    ensures { λ _. ⌜ now (s .exit) ≡ take at (now (s .entry)) ++ join (map (crypted back w nr) (blocks n (drop at (now (s .entry))))) ++ drop (at + 16 * n) (now (s .entry)) ⌝ }
+    ensures { λ _. ⌜ now (s .exit)
+        ≡ take at (now (s .entry)) ++ join (map (crypted back keys nr) (blocks n (drop at (now (s .entry))))) ++ drop (at + 16 * n) (now (s .entry)) ⌝ }
 {
     let mut b = [0u8; 256];
     let mut a = [0u8; 256];
     planes::spread(s, at, n, &mut b);
-    lanes(back, w, nr, &mut b, &mut a);
+    crypt_lanes(back, keys, nr, &mut b, &mut a);
     planes::gather(&a, s, at, n);
 }
 
 // What a holds afterwards is each of b's blocks, enciphered, or with `back` deciphered.
-fn lanes(back: bool, w: [[u8; 16]; 15], nr: usize, b: &mut [u8], a: &mut [u8])
+fn crypt_lanes(back: bool, keys: [[u8; 16]; 15], nr: usize, b: &mut [u8], a: &mut [u8])
     requires { ⌜ (0 < nr) × (nr < 15) × (length (now b) ≡ 256) × (length (now a) ≡ 256) ⌝ }
-    ensures { λ _. ⌜ Lanewise (crypted back w nr) (now (b .entry)) (now (a .exit)) ⌝ }
+    ensures { λ _. ⌜ Lanewise (crypted back keys nr) (now (b .entry)) (now (a .exit)) ⌝ }
 {
     if back {
-        inverse(w, nr, b, a);
+        inverse(keys, nr, b, a);
         return;
     }
-    forward(w, nr, b, a);
+    forward(keys, nr, b, a);
 }
 
 // Cipher.
-fn forward(w: [[u8; 16]; 15], nr: usize, b: &mut [u8], a: &mut [u8])
+fn forward(keys: [[u8; 16]; 15], nr: usize, b: &mut [u8], a: &mut [u8])
     requires { ⌜ (0 < nr) × (nr < 15) × (length (now b) ≡ 256) × (length (now a) ≡ 256) ⌝ }
-    ensures { λ _. ⌜ Lanewise (cipher w nr) (now (b .entry)) (now (a .exit)) ⌝ }
+    ensures { λ _. ⌜ Lanewise (cipher keys nr) (now (b .entry)) (now (a .exit)) ⌝ }
 {
-    planes::add(b, w[0]);
+    planes::add(b, keys[0]);
     let mut j = 1;
     while j < nr {
         planes::sub_shift(b, a);
         planes::mix(a, b);
-        planes::add(b, w[j]);
+        planes::add(b, keys[j]);
         j += 1;
     }
     planes::sub_shift(b, a);
-    planes::add(a, w[nr]);
+    planes::add(a, keys[nr]);
 }
 
 // InvCipher.
-fn inverse(w: [[u8; 16]; 15], nr: usize, b: &mut [u8], a: &mut [u8])
+fn inverse(keys: [[u8; 16]; 15], nr: usize, b: &mut [u8], a: &mut [u8])
     requires { ⌜ (0 < nr) × (nr < 15) × (length (now b) ≡ 256) × (length (now a) ≡ 256) ⌝ }
-    ensures { λ _. ⌜ Lanewise (invCipher w nr) (now (b .entry)) (now (a .exit)) ⌝ }
+    ensures { λ _. ⌜ Lanewise (invCipher keys nr) (now (b .entry)) (now (a .exit)) ⌝ }
 {
-    planes::add(b, w[nr]);
+    planes::add(b, keys[nr]);
     let mut j = nr - 1;
     while j > 0 {
         planes::inv_shift_sub(b, a);
-        planes::add(a, w[j]);
+        planes::add(a, keys[j]);
         planes::inv_mix(a, b);
         j -= 1;
     }
     planes::inv_shift_sub(b, a);
-    planes::add(a, w[0]);
+    planes::add(a, keys[0]);
 }

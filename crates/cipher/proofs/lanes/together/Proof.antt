@@ -1,4 +1,4 @@
--- `cipher::wide::together` meets its contract: what is done, and what the blocks that are left make of the rest, is the whole.
+-- `cipher::lanes::together` meets its contract: what is done, and what the blocks that are left make of the rest, is the whole.
 -- Assumes nothing.
 use mathlib.Core.Path.{_≡_, refl, _∙_}
 use mathlib.Core.List.{_++_, map}
@@ -9,17 +9,17 @@ use lib.ListN.{length, take, drop}
 use Rattle.block.specs.Blocks.{onBlocks}
 use Rattle.block.proofs.BlockLaws.{on-group}
 use Rattle.cipher.specs.Cipher.{crypted}
-use Rattle.cipher.proofs.wide.together.Statement.{statement}
-use Rattle.cipher.proofs.wide.together.Tie as tie
+use Rattle.cipher.proofs.lanes.together.Statement.{statement}
+use Rattle.cipher.proofs.lanes.together.Tie as tie
 
 abbrev Inv-loop : tie.InvT-loop
-Inv-loop back w nr s₀ at₀ s at =
+Inv-loop back keys nr s₀ at₀ s at =
     (at ≤ length s)
     × (length s ≡ length s₀)
-    × (take at s ++ onBlocks (map (crypted back w nr)) (drop at s) ≡ onBlocks (map (crypted back w nr)) s₀)
+    × (take at s ++ onBlocks (map (crypted back keys nr)) (drop at s) ≡ onBlocks (map (crypted back keys nr)) s₀)
 
 abbrev μ-loop : tie.MeasureT-loop
-μ-loop back w nr s₀ at₀ s at = length s₀ - at
+μ-loop back keys nr s₀ at₀ s at = length s₀ - at
 
 loop-holds : tie.Need-loop-holds Inv-loop μ-loop
 loop-holds c = (omega arith, refl, refl)
@@ -53,7 +53,7 @@ loop-again c =
     let n = c .before .before .before .before .at-most-sixteen .result in (
       omega arith,
       g .kept .1 .1 .1 .0 ∙ k .loop .inv .1,
-      on-group (crypted (a .back) (a .w) (a .nr)) n (k .loop .at) (k .loop .s) (g .last .1 .1 .1 .0) (omega arith) (g .kept .1 .1 .1 .0) (g .ensures)
+      on-group (crypted (a .back) (a .keys) (a .nr)) n (k .loop .at) (k .loop .s) (g .last .1 .1 .1 .0) (omega arith) (g .kept .1 .1 .1 .0) (g .ensures)
           ∙ k .loop .inv .2,
     )
 

@@ -1,4 +1,4 @@
--- `cipher::wide::forward` meets its contract: before turn j each of the blocks has gone through the rounds 1 to j - 1.
+-- `cipher::lanes::forward` meets its contract: before turn j each of the blocks has gone through the rounds 1 to j - 1.
 -- Assumes nothing.
 use mathlib.Core.Path.{_≡_, ap, ap₂, _∙_}
 use mathlib.Core.List.{List}
@@ -9,16 +9,16 @@ use Rattle.block.specs.Xor.{_⊕_}
 use Rattle.sbox.specs.Sub.{subBytes}
 use Rattle.rounds.specs.Steps.{shiftRows, mixColumns}
 use Rattle.planes.specs.Lanes.{lane, Lanewise}
-use Rattle.cipher.specs.Cipher.{key, throughRounds, cipher}
+use Rattle.cipher.specs.Cipher.{roundKey, throughRounds, cipher}
 use Rattle.cipher.proofs.RoundLaws.{no-round, round-done}
-use Rattle.cipher.proofs.wide.forward.Statement.{statement}
-use Rattle.cipher.proofs.wide.forward.Tie as tie
+use Rattle.cipher.proofs.lanes.forward.Statement.{statement}
+use Rattle.cipher.proofs.lanes.forward.Tie as tie
 
 abbrev Inv-loop : tie.InvT-loop
-Inv-loop nr b₀ a₀ w j₀ b a j = (1 ≤ j) × (j ≤ nr) × (length b ≡ 256) × (length a ≡ 256) × Lanewise (throughRounds w (j - 1)) b₀ b
+Inv-loop nr b₀ a₀ keys j₀ b a j = (1 ≤ j) × (j ≤ nr) × (length b ≡ 256) × (length a ≡ 256) × Lanewise (throughRounds keys (j - 1)) b₀ b
 
 abbrev μ-loop : tie.MeasureT-loop
-μ-loop nr b₀ a₀ w j₀ b a j = nr - j
+μ-loop nr b₀ a₀ keys j₀ b a j = nr - j
 
 array-copy-out-add : tie.Need-array-copy-out-add Inv-loop μ-loop
 array-copy-out-add c = omega arith
@@ -55,7 +55,7 @@ loop-less c = omega arith
 loop-again : tie.Need-loop-again Inv-loop μ-loop
 loop-again c =
     let k = c .before .before .before .before .before .before .before .before .before .before .before .before .before .before .before .before in
-    let w = c .before .before .before .before .before .before .before .before .before .before .before .before .before .before .before .before .before .before .before .before .before .before .before .before .args .t1 in
+    let keys = k .before .before .before .before .before .before .before .before .args .t1 in
     let j = k .loop .j in (
       omega arith,
       omega arith,
@@ -63,10 +63,12 @@ loop-again c =
       omega arith,
       λ l h.
           c .before .before .add2 .ensures l h
-          ∙ ap (λ (t : List ℕ). t ⊕ key w j)
+          ∙ ap (λ (t : List ℕ). t ⊕ roundKey keys j)
           (c .before .before .before .before .before .before .before .mix .ensures l h
-          ∙ ap mixColumns (c .before .before .before .before .before .before .before .before .before .before .before .before .sub-shift .ensures l h ∙ ap (λ (t : List ℕ). shiftRows (subBytes t)) (k .loop .inv .4 l h)))
-          ∙ round-done w j (lane (k .before .before .before .add .last .0) l) (omega arith),
+          ∙ ap mixColumns
+          (c .before .before .before .before .before .before .before .before .before .before .before .before .sub-shift .ensures l h
+          ∙ ap (λ (t : List ℕ). shiftRows (subBytes t)) (k .loop .inv .4 l h)))
+          ∙ round-done keys j (lane (k .before .before .before .add .last .0) l) (omega arith),
     )
 
 sub-shift-requires-2 : tie.Need-sub-shift-requires-2 Inv-loop μ-loop
@@ -91,15 +93,15 @@ returns : tie.Need-returns Inv-loop μ-loop
 unfolding cipher
 returns c l h =
     let k = c .before .before .before .before .before .before .before .before .before .before .before in
-    let st = c .before .before .before .before .before .before .before .before .before .before .before .before .before .before .before .before .before .before .before in
-    let w = st .args .t1 in
+    let st = k .before .before .before .before .before .before .before .before in
+    let keys = st .args .t1 in
     let nr = st .args .nr in
     let e : k .loop .j - 1 ≡ nr - 1 = omega arith in
     c .before .before .add3 .ensures l h
-    ∙ ap (λ (t : List ℕ). t ⊕ key w nr)
+    ∙ ap (λ (t : List ℕ). t ⊕ roundKey keys nr)
     (c .before .before .before .before .before .before .before .sub-shift2 .ensures l h
     ∙ ap (λ (t : List ℕ). shiftRows (subBytes t))
-    (k .loop .inv .4 l h ∙ ap₂ (λ (n : ℕ) (s : List ℕ). throughRounds w n s) e (k .before .before .before .add .ensures l h)))
+    (k .loop .inv .4 l h ∙ ap₂ (λ (n : ℕ) (s : List ℕ). throughRounds keys n s) e (k .before .before .before .add .ensures l h)))
 
 pub forward-spec : {M : Type 1} → statement M
 forward-spec =
