@@ -1,10 +1,10 @@
--- `edges::data_length` meets its contract: no entry of the table is longer than the longest associated data.
+-- `edges_eme2::data_length` meets its contract: no entry of the table is longer than the longest associated data.
 -- Assumes nothing.
 use mathlib.Core.List.{[], _∷_}
-use Rattle.edges.proofs.Laws.{bounded}
+use Rattle.edges_eme2.proofs.Laws.{bounded}
 use borrow.Author.Needs.{needs}
-use Rattle.edges.proofs.data_length.Statement.{statement}
-use Rattle.edges.proofs.data_length.Tie as tie
+use Rattle.edges_eme2.proofs.data_length.Statement.{statement}
+use Rattle.edges_eme2.proofs.data_length.Tie as tie
 
 mul-result : tie.Need-mul-result
 mul-result c = search needs

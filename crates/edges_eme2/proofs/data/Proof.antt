@@ -1,12 +1,12 @@
--- `edges::data` stays within the table and ends, and the message keeps its length.
+-- `edges_eme2::data` stays within the table and ends, and the message keeps its length.
 -- Assumes nothing.
 use mathlib.Core.Path.{_≡_}
 use Prim.Native.Nat.{_≤_, _-_}
 use native.Mathlib.Omega.{arith}
 use borrow.Author.Needs.{needs}
 use lib.ListN.{length}
-use Rattle.edges.proofs.data.Statement.{statement}
-use Rattle.edges.proofs.data.Tie as tie
+use Rattle.edges_eme2.proofs.data.Statement.{statement}
+use Rattle.edges_eme2.proofs.data.Tie as tie
 
 abbrev Inv-loop : tie.InvT-loop
 Inv-loop key ad message₀ i₀ message i = (i ≤ 7) × (length message ≡ length message₀)

@@ -5,7 +5,7 @@
 //
 // The numbers are the lengths and the call's answer. Where the answer is 0, the digest of the message follows, and whether the call of the
 // other direction then gave the message back; where it is a refusal, whether the message is as it was.
-// The lines to expect are the second implementation's (host/rust/second/examples/edges.rs).
+// The lines to expect are the second implementation's (host/rust/second/examples/edges_eme2.rs).
 use libc::STDOUT_FILENO;
 use patterns::digest;
 use patterns::fill;

@@ -1,10 +1,10 @@
--- `edges::key_length` meets its contract: no entry of the table is longer than the longest key.
+-- `edges_eme2::key_length` meets its contract: no entry of the table is longer than the longest key.
 -- Assumes nothing.
 use mathlib.Core.List.{[], _∷_}
-use Rattle.edges.proofs.Laws.{bounded}
+use Rattle.edges_eme2.proofs.Laws.{bounded}
 use borrow.Author.Needs.{needs}
-use Rattle.edges.proofs.key_length.Statement.{statement}
-use Rattle.edges.proofs.key_length.Tie as tie
+use Rattle.edges_eme2.proofs.key_length.Statement.{statement}
+use Rattle.edges_eme2.proofs.key_length.Tie as tie
 
 mul-result : tie.Need-mul-result
 mul-result c = search needs

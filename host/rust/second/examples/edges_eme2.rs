@@ -1,7 +1,7 @@
-//! Writes the lines that the program `edges` of this repository must print,
+//! Writes the lines that the program `edges_eme2` of this repository must print,
 //! by the second implementation: each call of EME2 on both sides of every
 //! edge of its refusals and of the wide block. A test holds
-//! `crates/edges/stdout` to what is written here.
+//! `crates/edges_eme2/stdout` to what is written here.
 
 use second::eme2;
 use std::fmt::Write;
@@ -76,7 +76,7 @@ mod tests {
     /// The file is what this program writes, byte for byte.
     #[test]
     fn file_as_written() {
-        let file = Path::new(env!("CARGO_MANIFEST_DIR")).join("../../../crates/edges/stdout");
+        let file = Path::new(env!("CARGO_MANIFEST_DIR")).join("../../../crates/edges_eme2/stdout");
         let kept = std::fs::read_to_string(file);
         assert!(kept.is_ok_and(|kept| kept == text()));
     }

@@ -1,8 +1,8 @@
--- `edges::call` meets its contract: each direction has its call.
+-- `edges_eme2::call` meets its contract: each direction has its call.
 -- Assumes nothing.
 use borrow.Author.Needs.{needs}
-use Rattle.edges.proofs.call.Statement.{statement}
-use Rattle.edges.proofs.call.Tie as tie
+use Rattle.edges_eme2.proofs.call.Statement.{statement}
+use Rattle.edges_eme2.proofs.call.Tie as tie
 
 lagunedo-eme2-decipher-requires : tie.Need-lagunedo-eme2-decipher-requires
 lagunedo-eme2-decipher-requires c κs = search needs
