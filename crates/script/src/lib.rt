@@ -1,7 +1,14 @@
-// The lines of a script: the kind of each, and its numbers.
+// The lines of a script, the kind of each and its numbers, and what is printed of a call: for the program `edges_store`.
 ghost use Prim.Native.Nat.{_≤_, _<_};
 ghost use lib.ListN.{length};
-use super::show::print;
+// What is printed of a call.
+mod show;
+
+pub use show::print;
+pub use show::print_digest;
+pub use show::print_field;
+pub use show::print_kept;
+pub use show::print_store;
 
 // A line of the script: its fourth letter, and its first four numbers, 0 where there are fewer.
 pub struct Line {

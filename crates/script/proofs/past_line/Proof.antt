@@ -1,17 +1,16 @@
--- `edges_store::show::same` stays within both slices and ends.
+-- `script::past_line` meets its contract: it stays within the text, and goes on by a byte at least.
 -- Assumes nothing.
 use Prim.Native.Nat.{_≤_, _-_}
 use native.Mathlib.Omega.{arith}
-use borrow.Author.Needs.{needs}
 use lib.ListN.{length}
-use Rattle.edges_store.proofs.show.same.Statement.{statement}
-use Rattle.edges_store.proofs.show.same.Tie as tie
+use Rattle.script.proofs.past_line.Statement.{statement}
+use Rattle.script.proofs.past_line.Tie as tie
 
 abbrev Inv-loop : tie.InvT-loop
-Inv-loop s t i₀ i = i ≤ length s
+Inv-loop text at i₀ i = (at ≤ i) × (i ≤ length text)
 
 abbrev μ-loop : tie.MeasureT-loop
-μ-loop s t i₀ i = length s - i
+μ-loop text at i₀ i = length text - i
 
 loop-holds : tie.Need-loop-holds Inv-loop μ-loop
 loop-holds c = omega arith
@@ -19,11 +18,11 @@ loop-holds c = omega arith
 shared-slice-read-if1 : tie.Need-shared-slice-read-if1 Inv-loop μ-loop
 shared-slice-read-if1 c = omega arith
 
-shared-slice-read-if1-2 : tie.Need-shared-slice-read-if1-2 Inv-loop μ-loop
-shared-slice-read-if1-2 c = omega arith
+add-result : tie.Need-add-result Inv-loop μ-loop
+add-result c = omega arith
 
 returns : tie.Need-returns Inv-loop μ-loop
-returns c = search needs
+returns c = omega arith
 
 add-i : tie.Need-add-i Inv-loop μ-loop
 add-i c = omega arith
@@ -35,17 +34,17 @@ loop-again : tie.Need-loop-again Inv-loop μ-loop
 loop-again c = omega arith
 
 returns-2 : tie.Need-returns-2 Inv-loop μ-loop
-returns-2 c = search needs
+returns-2 c = omega arith
 
-pub same-spec : {M : Type 1} → statement M
-same-spec =
+pub past-line-spec : {M : Type 1} → statement M
+past-line-spec =
     tie.close
     (tie.spec
     Inv-loop
     μ-loop
     loop-holds
     shared-slice-read-if1
-    shared-slice-read-if1-2
+    add-result
     returns
     add-i
     loop-less

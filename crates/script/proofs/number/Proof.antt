@@ -1,11 +1,11 @@
--- `edges_store::script::number` meets its contract: it stays within the line, and the number has at most eighteen digits.
+-- `script::number` meets its contract: it stays within the line, and the number has at most eighteen digits.
 -- Assumes nothing.
 use Prim.Native.Nat.{_≤_, _-_}
 use native.Mathlib.Omega.{arith}
 use borrow.Author.Needs.{needs}
 use lib.ListN.{length}
-use Rattle.edges_store.proofs.script.number.Statement.{statement}
-use Rattle.edges_store.proofs.script.number.Tie as tie
+use Rattle.script.proofs.number.Statement.{statement}
+use Rattle.script.proofs.number.Tie as tie
 
 abbrev Inv-loop : tie.InvT-loop
 Inv-loop line from value₀ i₀ value i = i ≤ length line

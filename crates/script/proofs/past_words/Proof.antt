@@ -1,25 +1,26 @@
--- `edges_store::script::past_line` meets its contract: it stays within the text, and goes on by a byte at least.
+-- `script::past_words` meets its contract: it stays within the line.
 -- Assumes nothing.
 use Prim.Native.Nat.{_≤_, _-_}
 use native.Mathlib.Omega.{arith}
+use borrow.Author.Needs.{needs}
 use lib.ListN.{length}
-use Rattle.edges_store.proofs.script.past_line.Statement.{statement}
-use Rattle.edges_store.proofs.script.past_line.Tie as tie
+use Rattle.script.proofs.past_words.Statement.{statement}
+use Rattle.script.proofs.past_words.Tie as tie
 
 abbrev Inv-loop : tie.InvT-loop
-Inv-loop text at i₀ i = (at ≤ i) × (i ≤ length text)
+Inv-loop line from i₀ i = i ≤ length line
 
 abbrev μ-loop : tie.MeasureT-loop
-μ-loop text at i₀ i = length text - i
+μ-loop line from i₀ i = length line - i
 
 loop-holds : tie.Need-loop-holds Inv-loop μ-loop
 loop-holds c = omega arith
 
-shared-slice-read-if1 : tie.Need-shared-slice-read-if1 Inv-loop μ-loop
-shared-slice-read-if1 c = omega arith
+shared-slice-read-digit : tie.Need-shared-slice-read-digit Inv-loop μ-loop
+shared-slice-read-digit c = omega arith
 
-add-result : tie.Need-add-result Inv-loop μ-loop
-add-result c = omega arith
+digit-requires : tie.Need-digit-requires Inv-loop μ-loop
+digit-requires c κs = search needs
 
 returns : tie.Need-returns Inv-loop μ-loop
 returns c = omega arith
@@ -36,15 +37,15 @@ loop-again c = omega arith
 returns-2 : tie.Need-returns-2 Inv-loop μ-loop
 returns-2 c = omega arith
 
-pub past-line-spec : {M : Type 1} → statement M
-past-line-spec =
+pub past-words-spec : {M : Type 1} → statement M
+past-words-spec =
     tie.close
     (tie.spec
     Inv-loop
     μ-loop
     loop-holds
-    shared-slice-read-if1
-    add-result
+    shared-slice-read-digit
+    digit-requires
     returns
     add-i
     loop-less
