@@ -6,7 +6,7 @@
 # make fuzz   the fuzz target under libFuzzer, FUZZ_RUNS scripts of calls (host/fuzz/fuzz.mk)
 # make peers  the benchmark beside other people's AES, written into docs/SPEED.md and docs/speed.svg
 # make install PREFIX=/usr/local  puts header, library, pkg-config file, desk and listing in place, after make
-.PHONY: all check test bench fuzz peers libraries
+.PHONY: all check test bench fuzz peers libraries listing
 
 all:
 	@tools/need rt cc
@@ -23,6 +23,10 @@ test:
 libraries:
 	@tools/need rt cc
 	@tools/build -- lagunedo probe
+
+listing:
+	@tools/need rt cc
+	@tools/build listing
 
 bench: libraries
 	@tools/need cargo
