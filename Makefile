@@ -1,33 +1,38 @@
-# make        builds the library for C and the listing program from their proved sources, and the desk; runs the listing on 01's example
-# make test   the whole gate: every proof, every edit that must fail, every program, and the host's tests
+# make        proves what changed of the library, the listing and demand 3, builds the library for C, the listing and the desk, and runs the
+#             listing on 01's example
+# make check  for daily work: what changed is proved again, then every program and every test of the host is run; no edit that must fail
+# make test   the whole gate: every proof from nothing, every edit that must fail, every program, and the host's tests
 # make bench  the benchmark (times depend on the machine; it is no test)
 # make fuzz   the fuzz target under libFuzzer, FUZZ_RUNS scripts of calls (host/fuzz/fuzz.mk)
 # make peers  the benchmark beside other people's AES, written into docs/SPEED.md and docs/speed.svg
 # make install PREFIX=/usr/local  puts header, library, pkg-config file, desk and listing in place, after make
-.PHONY: all test bench fuzz peers libraries listing probe
+.PHONY: all check test bench fuzz peers libraries listing
 
-all: libraries listing
+all:
+	@tools/need rt cc
+	@tools/build listing claims -- lagunedo
 	@$(MAKE) --no-print-directory $(HOST_OUT)/desk host-example
 	$(LAGUNEDO_LISTING) <crates/listing/stdin
 
-libraries:
-	@tools/need rt cc
-	@tools/quiet rt staticlib lagunedo
-
-listing:
-	@tools/quiet rt check listing
+check:
+	@tools/gate --changed
 
 test:
 	@tools/gate
 
-probe: libraries
-	@tools/quiet rt staticlib probe
+libraries:
+	@tools/need rt cc
+	@tools/build -- lagunedo probe
 
-bench: probe
+listing:
+	@tools/need rt cc
+	@tools/build listing
+
+bench: libraries
 	@tools/need cargo
 	@$(MAKE) --no-print-directory host-bench
 
-peers: probe
+peers: libraries
 	@$(MAKE) --no-print-directory host-peers
 
 fuzz: libraries

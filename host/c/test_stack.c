@@ -13,7 +13,7 @@
 #include "check.h"
 #include "lagunedo.h"
 
-enum { STACK = 1 << 18, UNUSED = 0xa5, MOST = 16 * 1024 };
+enum { STACK = 1 << 18, UNUSED = 0xa5, MOST = 8 * 1024 };
 enum { STORE = LAGUNEDO_SLOT_LIMIT * LAGUNEDO_RECORD_SIZE };
 
 static uint8_t stack[STACK], sheets[STORE], message[65536], text[2096];

@@ -10,7 +10,7 @@
  * What holds for every call
  *
  * Byte strings are lent as a pointer followed by their length in bytes. They
- * need no alignment. NULL is allowed where the length is 0, and nowhere else.
+ * need no alignment. NULL is allowed if the length is 0, and only then.
  *
  * What a call gives beside the number it returns is written behind pointers
  * to the caller's own uint32_t, uint64_t or struct lagunedo_job. These are
@@ -161,7 +161,7 @@ uint32_t lagunedo_aes_decipher(const uint8_t *key, size_t key_length,
  * what is lent, the call uses a constant amount of stack at every length.
  *
  * The last 16 key bytes are Key3, the 16 before them Key2, and the rest, 16
- * or 32 bytes, Key1, the key of AES. Where IEEE 1619.2 prints these fields in
+ * or 32 bytes, Key1, the key of AES. If IEEE 1619.2 prints these fields in
  * another order, a key from there is to be rearranged first.
  *
  * The associated data is not part of the result, and deciphering needs the
@@ -223,7 +223,7 @@ uint32_t lagunedo_eme2_decipher(const uint8_t *key, size_t key_length,
  * and test the length of both, whichever of them the slot needs. Each is 48
  * or 64 bytes, and the two may differ in length. A text is deciphered under
  * the key that its mark names. A text is written under the new key alone.
- * Where there is only one key, it may be lent as both.
+ * If there is only one key, it may be lent as both.
  *
  * Nothing shows that a key is the wrong one. Reading then gives other bytes,
  * and a step that converts a text stores other bytes in its place.
@@ -364,7 +364,7 @@ uint32_t lagunedo_read(const uint8_t *old_key, size_t old_key_length,
  * enciphered text, zeros after it. Every other slot is kept.
  *
  * Made again: LAGUNEDO_SHEET_PRESENT, as long as the sheet is there. It is
- * the answer too where somebody else added the sheet; reading the sheet tells
+ * the answer too if somebody else added the sheet; reading the sheet tells
  * which. If the sheet was removed since, it is added once more.
  */
 uint32_t lagunedo_add(const uint8_t *old_key, size_t old_key_length,
@@ -406,7 +406,7 @@ uint32_t lagunedo_add(const uint8_t *old_key, size_t old_key_length,
  *
  * Made again: LAGUNEDO_OTHER_REVISION, as long as the sheet is there and its
  * slot sound, since the stored revision is now above seen and never falls. It
- * is the answer too where somebody else revised the sheet first; reading the
+ * is the answer too if somebody else revised the sheet first; reading the
  * sheet tells which. Once the sheet was removed, it is LAGUNEDO_NO_SHEET.
  *
  * A removal ends this protection. A sheet added anew under its old number

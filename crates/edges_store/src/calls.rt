@@ -1,15 +1,15 @@
 // The calls for C, each with what it answered and left behind printed.
 ghost use mathlib.Core.Path.{_≡_};
 ghost use lib.ListN.{length};
-use super::script::at_most;
-use super::show::print;
-use super::show::print_digest;
-use super::show::print_field;
-use super::show::print_kept;
-use super::show::print_store;
 use libc::STDOUT_FILENO;
 use patterns::fill;
 use patterns::is_pattern;
+use script::at_most;
+use script::print;
+use script::print_digest;
+use script::print_field;
+use script::print_kept;
+use script::print_store;
 
 pub fn check(store: &[u8], before: &[u8])
     requires { ⌜ length (now before) ≡ length (now store) ⌝ }

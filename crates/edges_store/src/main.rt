@@ -22,18 +22,14 @@ ghost use mathlib.Core.Path.{_≡_};
 ghost use lib.ListN.{length};
 // The calls, each with what it answered and left behind printed.
 mod calls;
-// The lines of a script.
-mod script;
-// What is printed of a call.
-mod show;
 
 use script::Line;
 use script::at_most;
 use script::chosen;
 use script::echoed;
 use script::past_line;
+use script::print;
 use script::word;
-use show::print;
 
 fn main() {
     let mut script = io::large_buffer();

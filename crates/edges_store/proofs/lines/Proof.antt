@@ -9,7 +9,8 @@ use Rattle.edges_store.proofs.lines.Statement.{statement}
 use Rattle.edges_store.proofs.lines.Tie as tie
 
 abbrev Inv-loop : tie.InvT-loop
-Inv-loop script old new store₀ before₀ at₀ o₀ n₀ bytes₀ store before at o n bytes = (at ≤ length script) × (length store ≡ length store₀) × (length before ≡ length before₀)
+Inv-loop script old new store₀ before₀ at₀ o₀ n₀ bytes₀ store before at o n bytes =
+    (at ≤ length script) × (length store ≡ length store₀) × (length before ≡ length before₀)
 
 abbrev μ-loop : tie.MeasureT-loop
 μ-loop script old new store₀ before₀ at₀ o₀ n₀ bytes₀ store before at o n bytes = length script - at

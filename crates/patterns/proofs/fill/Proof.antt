@@ -34,7 +34,8 @@ loop-again : tie.Need-loop-again Inv-loop μ-loop
 loop-again c =
     let l = c .before .before .loop in
     let a = c .before .before .before .before .args in
-    (simp length-set (omega arith), simp length-set (omega arith), pattern-turn (a .by) (a .from) (l .s) (l .i) (c .pattern .result) (omega arith) (c .pattern .ensures) (l .inv .2))
+    let passed = pattern-turn (a .by) (a .from) (l .s) (l .i) (c .pattern .result) (omega arith) (c .pattern .ensures) (l .inv .2) in
+    (simp length-set (omega arith), simp length-set (omega arith), passed)
 
 same-length : tie.Need-same-length Inv-loop μ-loop
 same-length c = omega arith
