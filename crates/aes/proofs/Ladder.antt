@@ -13,7 +13,8 @@ use Rattle.block.specs.Blocks.{blockAt, withBlock}
 use Rattle.schedule.specs.Size.{keySize, Nr}
 use Rattle.schedule.specs.KeyExpansion.{roundKeys}
 use Rattle.cipher.specs.Cipher.{crypted}
-use Rattle.aes.specs.declared.Answer.the-variants.{Done, KeyLength, BlockLength}
+use Rattle.numbers.specs.declared.Refusal.the-variants.{KeyLength, MessageLength}
+use Rattle.numbers.specs.declared.Answer.the-variants.{Done, Refused}
 use Rattle.aes.specs.Aes.{aes}
 use Rattle.aes.specs.Calls.{number, afterwards, Called}
 use Rattle.aes.specs.Promise.{crypted-aes}
@@ -24,7 +25,7 @@ module _ (back : Bool) (k b : List ℕ) where
   unfolding afterwards
   with-number n e = ap (λ (m : ℕ). cond (eqb m 0) (aes back k b) b) e
 
-  pub key-refused : keySize (length k) ≡ false → Called back k b KeyLength b
+  pub key-refused : keySize (length k) ≡ false → Called back k b (Refused KeyLength) b
   unfolding number
   key-refused e =
       let n : number k b ≡ 1 = ap (λ (t : Bool). cond (not t) 1 (cond (not (eqb (length b) 16)) 2 0)) e in
@@ -35,7 +36,7 @@ module _ (back : Bool) (k b : List ℕ) where
   unfolding number
   past-key e = ap (λ (t : Bool). cond (not t) 1 (cond (not (eqb (length b) 16)) 2 0)) e
 
-  pub block-refused : keySize (length k) ≡ true → (length b ≡ 16 → ⊥) → Called back k b BlockLength b
+  pub block-refused : keySize (length k) ≡ true → (length b ≡ 16 → ⊥) → Called back k b (Refused MessageLength) b
   block-refused e h =
       let n : number k b ≡ 2 = past-key e ∙ ap (λ (t : Bool). cond (not t) 2 0) (ne-eqb (length b) 16 h) in
       (sym n, sym (with-number 2 n))

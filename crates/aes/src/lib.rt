@@ -11,13 +11,8 @@ pub use schedule::key_size;
 pub use schedule::rounds_of;
 ghost use Rattle.aes.specs.Calls.{Called};
 ghost use mathlib.Core.Bool.{true, false};
-
-// What a call answers: 01's numbers 0, 1 and 2.
-pub enum Answer {
-    Done,
-    KeyLength,
-    BlockLength,
-}
+use numbers::Answer;
+use numbers::Refusal;
 
 // Overwrites the block with its encipherment under the key.
 pub fn encipher(key: &[u8], block: &mut [u8]) -> Answer
@@ -33,16 +28,16 @@ pub fn decipher(key: &[u8], block: &mut [u8]) -> Answer
     call(true, key, block)
 }
 
-// 01, AES: the key is tested first, then the block.
+// 01, AES: the key is tested first, then the block, which is the message here.
 fn call(back: bool, key: &[u8], block: &mut [u8]) -> Answer
     ensures { λ r. ⌜ Called back (now (key .entry)) (now (block .entry)) r (now (block .exit)) ⌝ }
 {
     let n = key.len();
     if !key_size(n) {
-        return Answer::KeyLength;
+        return Answer::Refused(Refusal::KeyLength);
     }
     if block.len() != 16 {
-        return Answer::BlockLength;
+        return Answer::Refused(Refusal::MessageLength);
     }
     let keys = key_setup(key);
     let b = block::load(block, 0);

@@ -1,10 +1,9 @@
 // What the store's calls answer, as numbers by value: 01's number, and for each pointer of the call what is to stand behind it. The calls for C
 // then only write them there.
 ghost use mathlib.Core.Path.{_≡_};
-ghost use Rattle.plans.specs.Plans.{paper};
 ghost use Rattle.answers.specs.Sheets.{CheckedForC, ReadForC, AddForC, ReviseForC, RemoveForC, outcomeNumber, StepForC};
 use checking::Checked;
-use plans::Refusal;
+use numbers::number;
 use store::Outcome;
 use store::Removed;
 use store::Stepped;
@@ -36,28 +35,6 @@ pub struct StepValues {
     pub number: u32,
     pub place: usize,
     pub outcome: u32,
-}
-
-// 01's number of a refusal.
-pub fn number(x: Refusal) -> u32
-    ensures { λ r. ⌜ r ≡ paper x ⌝ }
-{
-    match x {
-        Refusal::KeyLength => 1,
-        Refusal::MessageLength => 2,
-        Refusal::DataLength => 3,
-        Refusal::StoreSize => 4,
-        Refusal::SheetZero => 5,
-        Refusal::TextLength => 6,
-        Refusal::NoSheet => 7,
-        Refusal::OtherRevision => 8,
-        Refusal::LastRevision => 9,
-        Refusal::NoRoom => 10,
-        Refusal::SheetThere => 11,
-        Refusal::Unsound => 12,
-        Refusal::BufferShort => 13,
-        Refusal::LengthChanged => 14,
-    }
 }
 
 // The outcomes in 01's order.

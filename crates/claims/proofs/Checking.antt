@@ -9,18 +9,16 @@ use borrow.Author.Tests.{eqb-true, eqb-false, ltb-false, le-ltb}
 use lib.Dec.{eqb, ltb}
 use lib.ListN.{length}
 use Rattle.block.specs.Bytes.{Bytes}
-use Rattle.records.specs.Record.{num, sound}
-use Rattle.slots.specs.Slots.{slots, slot, put, lowest, find}
+use Rattle.records.specs.Record.{recordSize, num, sound}
+use Rattle.slots.specs.Slots.{slots, slot, put, lowest, find, badSize}
 use Rattle.slots.proofs.FindLaws.{find-has, find-lowest, lowest-has, lowest-below}
-use Rattle.plans.specs.declared.Refusal.the-variants.{StoreSize}
-use Rattle.plans.specs.Plans.{badSize}
+use Rattle.numbers.specs.declared.Refusal.the-variants.{StoreLength}
+use Rattle.slots.proofs.PutLaws.{slot-other, slots-put, slot-put}
 use Rattle.checking.specs.declared.Checked.{Checked}
 use Rattle.checking.specs.declared.Checked.the-variants.{Counts, Fault, Refused}
 use Rattle.checking.specs.Check.{faulty, firstFault, counts, checkAnswer}
 use Rattle.claims.specs.Claims.{Passes}
 use Rattle.claims.proofs.Simulation.{SoundStore}
-use Rattle.claims.proofs.Keeping.{slots-put, slot-put}
-use Rattle.claims.proofs.ViewLaws.{slot-other}
 
 -- no sheet number other than 0 stands twice
 abbrev pub Apart : List ℕ → Type 0
@@ -39,7 +37,7 @@ unfolding checkAnswer
 nothing-found s e = by-tests (badSize s) (ltb (firstFault s) (slots s)) refl refl e
   where
     by-tests : (a b : Bool) → badSize s ≡ a → ltb (firstFault s) (slots s) ≡ b
-        → cond a (Refused StoreSize) (cond b (Fault (firstFault s)) (counts s)) ≡ counts s
+        → cond a (Refused StoreLength) (cond b (Fault (firstFault s)) (counts s)) ≡ counts s
         → (badSize s ≡ false) × (slots s ≤ firstFault s)
     by-tests true b p q x = let z : _≡_ {A = ℕ} 2 0 = ap kind x in let y : ⊥ = omega arith in absurd y
     by-tests false true p q x = let z : _≡_ {A = ℕ} 1 0 = ap kind x in let y : ⊥ = omega arith in absurd y
@@ -70,7 +68,7 @@ module _ (s : List ℕ) (b : Bytes s) (e : Passes s) where
   pub lowest-itself : (k : ℕ) → k < slots s → (num (slot s k) ≡ 0 → ⊥) → find s (num (slot s k)) ≡ k
   lowest-itself k h z =
       let a : k ≤ find s (num (slot s k)) = each-slot k h .1 z in
-      let c : k < find s (num (slot s k)) → ⊥ = λ q. find-lowest s (num (slot s k)) k q refl in
+      let c : k < find s (num (slot s k)) → ⊥ = λ q. find-lowest (slots s) (slot s) (num (slot s k)) k q refl in
       omega (arith, c)
 
   pub passes-apart : Apart s
@@ -85,7 +83,7 @@ unfolding checkAnswer firstFault faulty
 good-passes s g a =
     let p : ℕ → Bool = λ k. not (sound (slot s k)) || (not (eqb (num (slot s k)) 0) && ltb (find s (num (slot s k))) k) in
     let h : lowest p (slots s) < slots s → ⊥ = λ q. clash (p (lowest p (slots s))) (lowest-has p (slots s) q) (fine (lowest p (slots s)) q) in
-    ap₂ (λ (x y : Bool). cond x (Refused StoreSize) (cond y (Fault (lowest p (slots s))) (counts s))) (g .size)
+    ap₂ (λ (x y : Bool). cond x (Refused StoreLength) (cond y (Fault (lowest p (slots s))) (counts s))) (g .size)
     (le-ltb (lowest p (slots s)) (slots s) (omega (arith, h)))
   where
     clash : (t : Bool) → t ≡ true → t ≡ false → ⊥
@@ -96,9 +94,9 @@ good-passes s g a =
     by-number k false h e =
         let n : ℕ = num (slot s k) in
         let z : n ≡ 0 → ⊥ = eqb-false n 0 e in
-        let c : k < find s n → ⊥ = λ q. find-lowest s n k q refl in
+        let c : k < find s n → ⊥ = λ q. find-lowest (slots s) (slot s) n k q refl in
         let f : find s n < slots s = omega (arith, c) in
-        let d : num (slot s (find s n)) ≡ n = find-has s n f in
+        let d : num (slot s (find s n)) ≡ n = find-has (slots s) (slot s) n f in
         let i : find s n ≡ k = a (find s n) k f h (λ q. z (sym d ∙ q)) d in
         le-ltb (find s n) k (omega arith)
 
@@ -109,7 +107,7 @@ good-passes s g a =
 
 -- ---- kept by a slot written anew, where no other slot has its number
 
-pub apart-put : (s : List ℕ) (k : ℕ) (h : k < slots s) (x : List ℕ) (l : length x ≡ 2112) → Apart s
+pub apart-put : (s : List ℕ) (k : ℕ) (h : k < slots s) (x : List ℕ) (l : length x ≡ recordSize) → Apart s
     → ((j : ℕ) → j < slots s → (j ≡ k → ⊥) → (num x ≡ 0 → ⊥) → num (slot s j) ≡ num x → ⊥) → Apart (put s k x)
 apart-put s k h x l a f i j hi hj z q = by-slots (eqb i k) (eqb j k) refl refl
   where

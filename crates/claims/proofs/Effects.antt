@@ -7,26 +7,24 @@ use mathlib.Core.List.{List, [], _∷_}
 use Prim.Native.Nat.{ℕ, zero, suc, _+_, _≤_, _<_}
 use native.Mathlib.Nat.{not-suc-le-zero, le-of-suc-le-suc}
 use native.Mathlib.Omega.{arith}
-use borrow.Author.Tests.{eqb-true, eqb-false, leb-false, not-false}
-use lib.Dec.{eqb, leb, lit<}
-use lib.ListN.{length, take, drop, set}
+use borrow.Author.Tests.{eqb-false, leb-false}
+use lib.Dec.{eqb, leb}
+use lib.ListN.{length, set}
 use Rattle.block.specs.Bytes.{Bytes}
-use Rattle.block.proofs.BytesLaws.{bytes-zeros, bytes-take, bytes-drop}
+use Rattle.block.proofs.BytesLaws.{bytes-zeros}
 use Rattle.block.proofs.RowLaws.{bytes-row}
-use Rattle.eme2.specs.Transform.{afterwards}
-use Rattle.eme2.proofs.Promise.{bytes-kept}
-use Rattle.records.specs.Record.{num, rev, mark, len, leadOf, stored, sound}
-use Rattle.records.specs.Text.{textOf, sheet}
+use Rattle.records.specs.Record.{recordSize, textMost, greatestRevision, num, rev, mark, len, sound}
+use Rattle.sheets.specs.Text.{textOf, sheet}
 use Rattle.records.proofs.FieldLaws.{sound-len, sound-fields, num-bound, rev-bound}
-use Rattle.records.proofs.SheetLaws.{num-sheet, rev-sheet, length-sheet, sound-sheet, bytes-sheet}
-use Rattle.records.proofs.TextLaws.{length-textOf}
-use Rattle.slots.specs.Slots.{slots, slot, emptied, find}
-use Rattle.slots.proofs.FindLaws.{find-has}
+use Rattle.sheets.proofs.SheetLaws.{num-sheet, rev-sheet, length-sheet, sound-sheet, bytes-sheet}
+use Rattle.sheets.proofs.TextLaws.{length-textOf, bytes-textOf}
+use Rattle.slots.specs.Slots.{slots, slot, emptied}
 use Rattle.slots.proofs.SlotLaws.{length-slot}
+use Rattle.slots.proofs.PutLaws.{sound-emptied, length-emptied}
 use Rattle.plans.specs.declared.Plan.{Plan}
 use Rattle.plans.specs.declared.Plan.the-variants.{Refuse, At}
-use Rattle.plans.specs.Plans.{badKeys, absent, addPlan, revisePlan, reviseAtPlan, removePlan}
-use Rattle.plans.proofs.PlanLaws.{passed, slotOf, there, text-fits, long-enough, remove-at}
+use Rattle.plans.specs.Plans.{badKeys, addPlan, revisePlan, removePlan}
+use Rattle.plans.proofs.PlanLaws.{used, add-says, revise-says, remove-says}
 use Rattle.store.specs.declared.Outcome.{Outcome}
 use Rattle.store.specs.declared.Outcome.the-variants.{Done, Free, Damaged, Already, Converted}
 use Rattle.store.specs.Calls.{addStore, reviseStore, removeStore, recordOutcome, outcomeAt, convertedAt, stepStore}
@@ -34,91 +32,13 @@ use Rattle.claims.specs.Plain.{Place, holding, revisionOf, at, afterAdd,
 use Rattle.claims.specs.View.{plain}
 use Rattle.claims.proofs.ViewLaws.{length-plain, put-plain}
 use Rattle.claims.proofs.Simulation.{SoundStore, held}
-use Rattle.claims.proofs.Keeping.{place-emptied, sound-emptied, length-emptied, place-sheet, sound-put}
+use Rattle.claims.proofs.Keeping.{place-emptied, place-sheet, sound-put}
 
 -- a place that is set to what it holds
 set-same : (l : List Place) (k : ℕ) → k < length l → set l k (at l k) ≡ l
 set-same [] k h = absurd (not-suc-le-zero h)
 set-same (x ∷ l) zero h = refl
 set-same (x ∷ l) (suc k) h = ap (λ (m : List Place). x ∷ m) (set-same l k (le-of-suc-le-suc h))
-
-pub bytes-textOf : (o w r : List ℕ) → Bytes o → Bytes w → Bytes r → Bytes (textOf o w r)
-unfolding textOf leadOf stored
-bytes-textOf o w r bo bw br = by-mark (eqb (mark r) 0) (eqb (mark r) 1)
-  where
-    t : List ℕ
-    t = take (len r) (drop 16 r)
-
-    bt : Bytes t
-    bt = bytes-take (len r) (drop 16 r) (bytes-drop 16 r br)
-
-    by-mark : (a b : Bool) → Bytes (cond a t (afterwards true (cond b o w) (take 16 r) t))
-    by-mark true b = bt
-    by-mark false true = bytes-kept true o (take 16 r) t bo (bytes-take 16 r br) bt
-    by-mark false false = bytes-kept true w (take 16 r) t bw (bytes-take 16 r br) bt
-
--- ---- what a plan that ends at slot k says
-
-pub record Added (s : List ℕ) (n : ℕ) (t : List ℕ) (k : ℕ) : Type 0 where
-  pub within : k < slots s
-  pub some : n ≡ 0 → ⊥
-  pub long : 16 ≤ length t
-  pub fits : length t ≤ 2096
-  pub new : find s n ≡ slots s
-  pub free : num (slot s k) ≡ 0
-
-pub add-says : (o w s : List ℕ) (n : ℕ) (t : List ℕ) (k : ℕ) → addPlan o w s n t ≡ At k → Added s n t k
-unfolding addPlan
-add-says o w s n t k e =
-    let p1 = passed _ _ _ k e in
-    let p2 = passed _ _ _ k (p1 .1) in
-    let p3 = passed _ _ _ k (p2 .1) in
-    let p4 = passed _ _ _ k (p3 .1) in
-    let p5 = passed _ _ _ k (p4 .1) in
-    let p6 = passed _ _ _ k (p5 .1) in
-    let f : find s 0 ≡ k = ap slotOf (p6 .1) in
-    record {
-      within = omega (arith, there s 0 (p6 .0));
-      some = eqb-false n 0 (p3 .0);
-      long = long-enough t (p4 .0);
-      fits = text-fits t (p4 .0);
-      new = eqb-true (find s n) (slots s) (not-false (absent s n) (p5 .0));
-      free = sym (ap (λ (j : ℕ). num (slot s j)) f) ∙ find-has s 0 (there s 0 (p6 .0));
-    }
-
-pub record Revised (s : List ℕ) (n v : ℕ) (t : List ℕ) (k : ℕ) : Type 0 where
-  pub within : k < slots s
-  pub some : n ≡ 0 → ⊥
-  pub long : 16 ≤ length t
-  pub fits : length t ≤ 2096
-  pub number : num (slot s k) ≡ n
-  pub seen : v ≡ rev (slot s k)
-  pub place : find s n ≡ k
-  pub below : rev (slot s k) ≡ 65535 → ⊥
-
-pub revise-says : (o w s : List ℕ) (n v : ℕ) (t : List ℕ) (k : ℕ) → revisePlan o w s n v t ≡ At k → Revised s n v t k
-unfolding revisePlan reviseAtPlan
-revise-says o w s n v t k e =
-    let p1 = passed _ _ _ k e in
-    let p2 = passed _ _ _ k (p1 .1) in
-    let p3 = passed _ _ _ k (p2 .1) in
-    let p4 = passed _ _ _ k (p3 .1) in
-    let p5 = passed _ _ _ k (p4 .1) in
-    let p6 = passed _ _ _ k (p5 .1) in
-    let p7 = passed _ _ _ k (p6 .1) in
-    let p8 = passed _ _ _ k (p7 .1) in
-    let f : find s n ≡ k = ap slotOf (p8 .1) in
-    let r : v ≡ rev (slot s (find s n)) = eqb-true v (rev (slot s (find s n))) (not-false (eqb v (rev (slot s (find s n)))) (p7 .0)) in
-    record {
-      within = omega (arith, there s n (p5 .0));
-      some = eqb-false n 0 (p3 .0);
-      long = long-enough t (p4 .0);
-      fits = text-fits t (p4 .0);
-      number = sym (ap (λ (j : ℕ). num (slot s j)) f) ∙ find-has s n (there s n (p5 .0));
-      seen = r ∙ ap (λ (j : ℕ). rev (slot s j)) f;
-      place = f;
-      below = λ q. eqb-false (rev (slot s (find s n))) 65535 (p8 .0) (ap (λ (j : ℕ). rev (slot s j)) f ∙ q);
-    }
 
 -- a slot that a step converts is used and sound
 converts : (s : List ℕ) (k : ℕ) → outcomeAt s k ≡ Converted → (k < slots s) × (num (slot s k) ≡ 0 → ⊥) × (sound (slot s k) ≡ true)
@@ -149,8 +69,8 @@ pub record Rekeyed (o w s : List ℕ) (k : ℕ) : Type 0 where
   pub used : num (slot s k) ≡ 0 → ⊥
   pub bytes : Bytes (textOf o w (slot s k))
   pub long : 16 ≤ length (textOf o w (slot s k))
-  pub fits : length (textOf o w (slot s k)) ≤ 2096
-  pub whole : length (rekeyed o w s k) ≡ 2112
+  pub fits : length (textOf o w (slot s k)) ≤ textMost
+  pub whole : length (rekeyed o w s k) ≡ recordSize
   pub number : num (rekeyed o w s k) ≡ num (slot s k)
   pub revision : rev (rekeyed o w s k) ≡ rev (slot s k)
 
@@ -158,12 +78,12 @@ pub convert-says : (o w s : List ℕ) (k : ℕ) → Bytes o → Bytes w → Byte
 convert-says o w s k bo bw bs e =
     let c = converts s k e in
     let r : List ℕ = slot s k in
-    let br : Bytes r = bytes-row 2112 s k bs in
+    let br : Bytes r = bytes-row recordSize s k bs in
     let b = sound-len r (c .2) (c .1) in
     let t : List ℕ = textOf o w r in
     let bt : Bytes t = bytes-textOf o w r bo bw br in
     let lt : length t ≡ len r = length-textOf r o w bo bw br (omega (arith, b, length-slot s k (c .0))) in
-    let ht : length t ≤ 2096 = omega (arith, b) in
+    let ht : length t ≤ textMost = omega (arith, b) in
     record {
       within = c .0;
       used = c .1;
@@ -181,9 +101,9 @@ module _ (o w s : List ℕ) (keys : badKeys o w ≡ false) (bo : Bytes o) (bw : 
   pub effect-remove : (n : ℕ) (p : Plan) → removePlan s n ≡ p → (plain o w (removeStore s p) ≡ afterRemove (plain o w s) p) × SoundStore (removeStore s p)
   effect-remove n (Refuse x) e = (refl, g)
   effect-remove n (At k) e =
-      let h : k < slots s = remove-at s n k e in (
+      let h : k < slots s = remove-says s n k e .1 .within in (
         put-plain o w s k emptied h length-emptied ∙ ap (set (plain o w s) k) (place-emptied o w),
-        sound-put s k h emptied length-emptied g (bytes-zeros 2112) sound-emptied,
+        sound-put s k h emptied length-emptied g (bytes-zeros recordSize) sound-emptied,
       )
 
   pub effect-add : (n : ℕ) (t : List ℕ) → n < 4294967296 → Bytes t → (p : Plan) → addPlan o w s n t ≡ p
@@ -192,9 +112,9 @@ module _ (o w s : List ℕ) (keys : badKeys o w ≡ false) (bo : Bytes o) (bw : 
   effect-add n t hn bt (At k) e =
       let a = add-says o w s n t k e in
       let x : List ℕ = sheet w n 1 t in
-      let lx : length x ≡ 2112 = length-sheet w n 1 t bw bt (a .fits) in (
-        put-plain o w s k x (a .within) lx ∙ ap (set (plain o w s) k) (place-sheet w n 1 t bw bt (a .fits) hn (lit< tt) o (a .some)),
-        sound-put s k (a .within) x lx g (bytes-sheet w n 1 t bw bt) (sound-sheet w n 1 t bw bt (a .fits) (a .some) hn (omega arith) (lit< tt) (a .long)),
+      let lx : length x ≡ recordSize = length-sheet w n 1 t bw bt (a .fits) in (
+        put-plain o w s k x (a .within) lx ∙ ap (set (plain o w s) k) (place-sheet w n 1 t bw bt (a .fits) hn (omega arith) o (a .some)),
+        sound-put s k (a .within) x lx g (bytes-sheet w n 1 t bw bt) (sound-sheet w n 1 t bw bt (a .fits) (a .some) hn (omega arith) (omega arith) (a .long)),
       )
 
   pub effect-revise : (n v : ℕ) (t : List ℕ) → n < 4294967296 → Bytes t → (p : Plan) → revisePlan o w s n v t ≡ p
@@ -203,15 +123,15 @@ module _ (o w s : List ℕ) (keys : badKeys o w ≡ false) (bo : Bytes o) (bw : 
   effect-revise n v t hn bt (At k) e =
       let a = revise-says o w s n v t k e in
       let r : List ℕ = slot s k in
-      let hv : rev r + 1 < 65536 = omega (arith, rev-bound r (bytes-row 2112 s k (g .bytes)), a .below) in
+      let hv : rev r + 1 ≤ greatestRevision = omega (arith, rev-bound r (bytes-row recordSize s k (g .bytes)), a .below) in
       let x : List ℕ = sheet w n (rev r + 1) t in
-      let lx : length x ≡ 2112 = length-sheet w n (rev r + 1) t bw bt (a .fits) in
-      let u : num r ≡ 0 → ⊥ = λ q. a .some (sym (a .number) ∙ q) in
-      let q : revisionOf (at (plain o w s) k) ≡ rev r = ap revisionOf (held o w s keys bo bw g k (a .within) u) in (
-        put-plain o w s k x (a .within) lx
-            ∙ ap (set (plain o w s) k) (place-sheet w n (rev r + 1) t bw bt (a .fits) hn hv o (a .some))
+      let lx : length x ≡ recordSize = length-sheet w n (rev r + 1) t bw bt (a .fits) in
+      let u : num r ≡ 0 → ⊥ = used (a .at) in
+      let q : revisionOf (at (plain o w s) k) ≡ rev r = ap revisionOf (held o w s keys bo bw g k (a .at .within) u) in (
+        put-plain o w s k x (a .at .within) lx
+            ∙ ap (set (plain o w s) k) (place-sheet w n (rev r + 1) t bw bt (a .fits) hn hv o (a .at .some))
             ∙ ap (λ (j : ℕ). set (plain o w s) k (holding n (j + 1) t)) (sym q),
-        sound-put s k (a .within) x lx g (bytes-sheet w n (rev r + 1) t bw bt) (sound-sheet w n (rev r + 1) t bw bt (a .fits) (a .some) hn (omega arith) hv (a .long)),
+        sound-put s k (a .at .within) x lx g (bytes-sheet w n (rev r + 1) t bw bt) (sound-sheet w n (rev r + 1) t bw bt (a .fits) (a .at .some) hn (omega arith) hv (a .long)),
       )
 
   -- a step leaves the list as it was
@@ -223,11 +143,11 @@ module _ (o w s : List ℕ) (keys : badKeys o w ≡ false) (bo : Bytes o) (bw : 
   converted k Converted e =
       let c = convert-says o w s k bo bw (g .bytes) e in
       let r : List ℕ = slot s k in
-      let br : Bytes r = bytes-row 2112 s k (g .bytes) in
+      let br : Bytes r = bytes-row recordSize s k (g .bytes) in
       let f = sound-fields r (g .each k (c .within)) (c .used) in
       let t : List ℕ = textOf o w r in
       let hn : num r < 4294967296 = num-bound r br in
-      let hv : rev r < 65536 = rev-bound r br in (
+      let hv : rev r ≤ greatestRevision = rev-bound r br in (
         put-plain o w s k (rekeyed o w s k) (c .within) (c .whole)
             ∙ ap (set (plain o w s) k) (place-sheet w (num r) (rev r) t bw (c .bytes) (c .fits) hn hv o (c .used) ∙ sym (held o w s keys bo bw g k (c .within) (c .used)))
             ∙ set-same (plain o w s) k (omega (arith, length-plain o w s, c .within)),

@@ -9,9 +9,10 @@ use borrow.Author.Tests.{eq-eqb, ne-eqb}
 use lib.Dec.{eqb}
 use Rattle.block.specs.Bytes.{Bytes}
 use Rattle.records.specs.Record.{num, rev, mark}
-use Rattle.records.specs.Text.{textOf}
-use Rattle.records.proofs.SheetLaws.{mark-sheet}
+use Rattle.sheets.specs.Text.{textOf}
+use Rattle.sheets.proofs.SheetLaws.{mark-sheet}
 use Rattle.slots.specs.Slots.{slots, slot, put}
+use Rattle.slots.proofs.PutLaws.{slots-put, slot-put}
 use Rattle.plans.specs.declared.Plan.{Plan}
 use Rattle.plans.specs.Plans.{badKeys, stepPlan}
 use Rattle.checking.specs.Check.{marked}
@@ -21,7 +22,6 @@ use Rattle.store.proofs.StepLaws.{inside, is-converted}
 use Rattle.claims.specs.Machine.{stepping, State, storeStep}
 use Rattle.claims.specs.Claims.{LastSlotClaim, KeepsOthers, onlyTheFirst, firstSlots, everySlot}
 use Rattle.claims.proofs.Simulation.{SoundStore}
-use Rattle.claims.proofs.Keeping.{slots-put, slot-put}
 use Rattle.claims.proofs.Effects.{rekeyed, convert-says, effect-step}
 use Rattle.claims.proofs.LastSlot.{step-taken}
 use Rattle.claims.proofs.StepRule.{keeps-others}

@@ -9,24 +9,23 @@ use borrow.Author.Tests.{eqb-true, eqb-false, eq-eqb, leb-true, leb-false}
 use lib.Dec.{eqb, leb}
 use lib.ListN.{length}
 use Rattle.block.specs.Bytes.{Bytes}
-use Rattle.records.specs.Record.{num, rev, mark, sound}
-use Rattle.records.specs.Text.{textOf, sheet}
-use Rattle.records.proofs.SheetLaws.{mark-sheet, length-sheet}
-use Rattle.slots.specs.Slots.{slots, slot, put, emptied}
+use Rattle.records.specs.Record.{recordSize, num, rev, mark, sound}
+use Rattle.sheets.specs.Text.{textOf, sheet}
+use Rattle.sheets.proofs.SheetLaws.{mark-sheet, length-sheet}
+use Rattle.slots.specs.Slots.{slots, slot, put, emptied, badSize}
+use Rattle.slots.proofs.PutLaws.{length-emptied, slots-put, num-emptied, every}
 use Rattle.plans.specs.declared.Plan.{Plan}
 use Rattle.plans.specs.declared.Plan.the-variants.{Refuse, At}
-use Rattle.plans.specs.Plans.{badKeys, badSize, addPlan, revisePlan, removePlan, stepPlan}
-use Rattle.plans.proofs.PlanLaws.{no, remove-at}
+use Rattle.plans.specs.Plans.{badKeys, addPlan, revisePlan, removePlan, stepPlan}
+use Rattle.plans.proofs.PlanLaws.{opened-no, remove-says, add-says, revise-says}
 use Rattle.checking.specs.Check.{marked}
 use Rattle.store.specs.declared.Outcome.{Outcome}
 use Rattle.store.specs.declared.Outcome.the-variants.{Done, Free, Damaged, Already, Converted}
 use Rattle.store.specs.Calls.{addStore, reviseStore, removeStore, recordOutcome, outcomeAt, movedFrom, convertedAt, stepAnswer, placeAfter, stepStore}
 use Rattle.claims.specs.Machine.{Event, reading, adding, revising, removing, stepping, AllAllowed, State, storeStep, moved, next, final}
 use Rattle.claims.specs.Claims.{NoneLeft, stepsOf, LastSlotClaim}
-use Rattle.claims.proofs.ViewLaws.{slot-other}
 use Rattle.claims.proofs.Simulation.{SoundStore}
-use Rattle.claims.proofs.Keeping.{length-emptied, slots-put, slot-put}
-use Rattle.claims.proofs.Effects.{add-says, revise-says, rekeyed, convert-says}
+use Rattle.claims.proofs.Effects.{rekeyed, convert-says}
 use Rattle.claims.proofs.Traces.{one-next, same-list, slots-stay}
 use Rattle.claims.proofs.Joining.{final-join, allowed-left, allowed-right}
 use Rattle.claims.proofs.Checking.{passes-sound}
@@ -58,31 +57,23 @@ or-true true = refl
 or-true false = refl
 
 ready-emptied : ready emptied ≡ true
-unfolding num
-ready-emptied = refl
+ready-emptied = ap (λ (b : Bool). b || eqb (mark emptied) 2) (eq-eqb (num emptied) 0 num-emptied)
 
 ready-sheet : (w : List ℕ) (n v : ℕ) (t : List ℕ) → ready (sheet w n v t) ≡ true
 ready-sheet w n v t =
     ap (λ (b : Bool). eqb (num (sheet w n v t)) 0 || b) (eq-eqb (mark (sheet w n v t)) 2 (mark-sheet w n v t)) ∙ or-true (eqb (num (sheet w n v t)) 0)
 
 -- a slot written so that it is ready
-module _ (s : List ℕ) (k : ℕ) (h : k < slots s) (x : List ℕ) (l : length x ≡ 2112) (r : ready x ≡ true) where
+module _ (s : List ℕ) (k : ℕ) (h : k < slots s) (x : List ℕ) (l : length x ≡ recordSize) (r : ready x ≡ true) where
   behind-put : (p : ℕ) → Behind p s → Behind p (put s k x)
-  behind-put p b j hj hs = by-slot (eqb j k) refl
-    where
-      by-slot : (t : Bool) → eqb j k ≡ t → ready (slot (put s k x) j) ≡ true
-      by-slot true e = ap (λ (i : ℕ). ready (slot (put s k x) i)) (eqb-true j k e) ∙ ap ready (slot-put s k h x l) ∙ r
-      by-slot false e = ap ready (slot-other s k h x l j (eqb-false j k e)) ∙ b j hj (omega (arith, slots-put s k h x l))
+  behind-put p b j hj hs =
+      every s k h x l (λ i y. i < p → i < slots s → ready y ≡ true) (λ a c. r) (λ i z. b i) j hj (omega (arith, slots-put s k h x l))
 
   -- and the slot itself with it
   behind-more : Behind k s → Behind (k + 1) (put s k x)
-  behind-more b j hj hs = by-slot (eqb j k) refl
-    where
-      by-slot : (t : Bool) → eqb j k ≡ t → ready (slot (put s k x) j) ≡ true
-      by-slot true e = ap (λ (i : ℕ). ready (slot (put s k x) i)) (eqb-true j k e) ∙ ap ready (slot-put s k h x l) ∙ r
-      by-slot false e =
-          let z : j ≡ k → ⊥ = eqb-false j k e in
-          ap ready (slot-other s k h x l j z) ∙ b j (omega (arith, z)) (omega (arith, slots-put s k h x l))
+  behind-more b j hj hs =
+      every s k h x l (λ i y. i < k + 1 → i < slots s → ready y ≡ true) (λ a c. r) (λ i z a. b i (omega (arith, z))) j hj
+      (omega (arith, slots-put s k h x l))
 
 -- the slot at the place is ready as it stands
 behind-next : (s : List ℕ) (k : ℕ) → ready (slot s k) ≡ true → Behind k s → Behind (k + 1) s
@@ -154,8 +145,7 @@ module _ (o w s : List ℕ) (bo : Bytes o) (bw : Bytes w) (g : SoundStore s) whe
 
 -- with keys and a store of allowed sizes a step is never refused
 pub step-taken : (o w s : List ℕ) (k : ℕ) → badKeys o w ≡ false → badSize s ≡ false → stepPlan o w s k ≡ At k
-unfolding stepPlan
-step-taken o w s k a b = no _ _ _ a ∙ no _ _ _ b
+step-taken o w s k a b = opened-no o w s a b (At k)
 
 -- ---- a copy that has made n steps: the slots behind it are ready, and it is n on or past the end
 
@@ -167,14 +157,14 @@ module _ (o w : List ℕ) (keys : badKeys o w ≡ false) (bo : Bytes o) (bw : By
     kept-by-remove : (i : ℕ) (q : Plan) → removePlan s i ≡ q → Reached n p (removeStore s q)
     kept-by-remove i (Refuse x) e = r
     kept-by-remove i (At k) e =
-        let h : k < slots s = remove-at s i k e in
+        let h : k < slots s = remove-says s i k e .1 .within in
         (behind-put s k h emptied length-emptied ready-emptied p (r .0), λ a. r .1 (omega (arith, slots-put s k h emptied length-emptied)))
 
     kept-by-add : (i : ℕ) (t : List ℕ) → Bytes t → (q : Plan) → addPlan o w s i t ≡ q → Reached n p (addStore w s i t q)
     kept-by-add i t bt (Refuse x) e = r
     kept-by-add i t bt (At k) e =
         let a = add-says o w s i t k e in
-        let l : length (sheet w i 1 t) ≡ 2112 = length-sheet w i 1 t bw bt (a .fits) in
+        let l : length (sheet w i 1 t) ≡ recordSize = length-sheet w i 1 t bw bt (a .fits) in
         (behind-put s k (a .within) (sheet w i 1 t) l (ready-sheet w i 1 t) p (r .0), λ b. r .1 (omega (arith, slots-put s k (a .within) (sheet w i 1 t) l)))
 
     kept-by-revise : (i v : ℕ) (t : List ℕ) → Bytes t → (q : Plan) → revisePlan o w s i v t ≡ q → Reached n p (reviseStore w s i t q)
@@ -182,8 +172,8 @@ module _ (o w : List ℕ) (keys : badKeys o w ≡ false) (bo : Bytes o) (bw : By
     kept-by-revise i v t bt (At k) e =
         let a = revise-says o w s i v t k e in
         let x : List ℕ = sheet w i (rev (slot s k) + 1) t in
-        let l : length x ≡ 2112 = length-sheet w i (rev (slot s k) + 1) t bw bt (a .fits) in
-        (behind-put s k (a .within) x l (ready-sheet w i (rev (slot s k) + 1) t) p (r .0), λ b. r .1 (omega (arith, slots-put s k (a .within) x l)))
+        let l : length x ≡ recordSize = length-sheet w i (rev (slot s k) + 1) t bw bt (a .fits) in
+        (behind-put s k (a .at .within) x l (ready-sheet w i (rev (slot s k) + 1) t) p (r .0), λ b. r .1 (omega (arith, slots-put s k (a .at .within) x l)))
 
   -- the step of a copy d, seen from copy c
   by-a-step : (st : State) → SoundStore (st .store) → (n d : ℕ) → Reached n (st .place c) (st .store)

@@ -11,16 +11,17 @@ use lib.Dec.{eqb}
 use lib.ListN.{length}
 use Rattle.block.specs.Bytes.{Bytes}
 use Rattle.block.proofs.RowLaws.{bytes-row}
-use Rattle.records.specs.Record.{num, rev}
-use Rattle.records.specs.Text.{sheet}
+use Rattle.records.specs.Record.{recordSize, greatestRevision, num, rev}
+use Rattle.sheets.specs.Text.{sheet}
 use Rattle.records.proofs.FieldLaws.{rev-bound}
-use Rattle.records.proofs.SheetLaws.{num-sheet, rev-sheet, length-sheet}
-use Rattle.slots.specs.Slots.{slots, slot, put, emptied, scan, find}
-use Rattle.slots.proofs.FindLaws.{hasNum, find-has}
+use Rattle.sheets.proofs.SheetLaws.{num-sheet, rev-sheet, length-sheet}
+use Rattle.slots.specs.Slots.{slots, slot, put, emptied, find}
+use Rattle.slots.proofs.FindLaws.{find-has}
+use Rattle.slots.proofs.PutLaws.{slot-other, num-emptied, length-emptied, slots-put, slot-put, find-put}
 use Rattle.plans.specs.declared.Plan.{Plan}
 use Rattle.plans.specs.declared.Plan.the-variants.{Refuse, At}
 use Rattle.plans.specs.Plans.{badKeys, addPlan, revisePlan, removePlan, stepPlan}
-use Rattle.plans.proofs.PlanLaws.{passed, slotOf, there, remove-at}
+use Rattle.plans.proofs.PlanLaws.{remove-says, add-says, revise-says}
 use Rattle.store.specs.declared.Outcome.{Outcome}
 use Rattle.store.specs.declared.Outcome.the-variants.{Done, Free, Damaged, Already, Converted}
 use Rattle.store.specs.declared.Stored.the-variants.{Refused, Revision}
@@ -28,10 +29,8 @@ use Rattle.store.specs.declared.Removed.the-variants as removed
 use Rattle.store.specs.Calls.{addStore, reviseAnswer, reviseStore, removeAnswer, removeStore, outcomeAt, convertedAt, stepStore}
 use Rattle.claims.specs.Machine.{Event, reading, adding, revising, removing, stepping, Allowed, AllAllowed, Answer, ofRead, ofStored, ofRemoved, ofStep, State, answer, next, answers}
 use Rattle.claims.specs.Claims.{eventAt, answerAt, RemovedAt}
-use Rattle.claims.proofs.ViewLaws.{scan-same, slot-other}
 use Rattle.claims.proofs.Simulation.{SoundStore}
-use Rattle.claims.proofs.Keeping.{num-emptied, length-emptied, slots-put, slot-put}
-use Rattle.claims.proofs.Effects.{add-says, revise-says, rekeyed, convert-says}
+use Rattle.claims.proofs.Effects.{rekeyed, convert-says}
 use Rattle.claims.proofs.Traces.{one-next}
 
 -- sheet n is in the store, at a revision above v
@@ -39,30 +38,18 @@ abbrev Above : ℕ → ℕ → List ℕ → Type 0
 Above n v s = (find s n < slots s) × (v < rev (slot s (find s n)))
 
 -- a slot written anew that has the number n exactly where it had it
-module _ (s : List ℕ) (k : ℕ) (h : k < slots s) (x : List ℕ) (l : length x ≡ 2112) (n : ℕ) (q : eqb (num x) n ≡ eqb (num (slot s k)) n) where
-  find-same : find (put s k x) n ≡ find s n
-  unfolding find
-  find-same =
-      ap (scan (hasNum (put s k x) n) 0) (slots-put s k h x l)
-      ∙ scan-same (hasNum (put s k x) n) (hasNum s n) 0 (slots s) (λ j a b. by-slot j (eqb j k) refl)
-    where
-      by-slot : (j : ℕ) (t : Bool) → eqb j k ≡ t → eqb (num (slot (put s k x) j)) n ≡ eqb (num (slot s j)) n
-      by-slot j true e =
-          let f : j ≡ k = eqb-true j k e in
-          ap (λ (i : ℕ). eqb (num (slot (put s k x) i)) n) f
-          ∙ ap (λ (r : List ℕ). eqb (num r) n) (slot-put s k h x l)
-          ∙ q
-          ∙ sym (ap (λ (i : ℕ). eqb (num (slot s i)) n) f)
-      by-slot j false e = ap (λ (r : List ℕ). eqb (num r) n) (slot-other s k h x l j (eqb-false j k e))
+module _ (s : List ℕ) (k : ℕ) (h : k < slots s) (x : List ℕ) (l : length x ≡ recordSize) (n : ℕ) (q : eqb (num x) n ≡ eqb (num (slot s k)) n) where
+  same-place : find (put s k x) n ≡ find s n
+  same-place = find-put s k h x l n q
 
   above-put : (v : ℕ) → (num (slot s k) ≡ n → rev (slot s k) ≤ rev x) → Above n v s → Above n v (put s k x)
   above-put v f a =
-      (omega (arith, find-same, slots-put s k h x l, a .0), subst (λ (i : ℕ). v < rev (slot (put s k x) i)) (sym find-same) (by-slot (eqb (find s n) k) refl))
+      (omega (arith, same-place, slots-put s k h x l, a .0), subst (λ (i : ℕ). v < rev (slot (put s k x) i)) (sym same-place) (by-slot (eqb (find s n) k) refl))
     where
       by-slot : (t : Bool) → eqb (find s n) k ≡ t → v < rev (slot (put s k x) (find s n))
       by-slot true e =
           let i : find s n ≡ k = eqb-true (find s n) k e in
-          let d : num (slot s k) ≡ n = sym (ap (λ (j : ℕ). num (slot s j)) i) ∙ find-has s n (a .0) in
+          let d : num (slot s k) ≡ n = sym (ap (λ (j : ℕ). num (slot s j)) i) ∙ find-has (slots s) (slot s) n (a .0) in
           let y : rev (slot (put s k x) (find s n)) ≡ rev x = ap (λ (j : ℕ). rev (slot (put s k x) j)) i ∙ ap rev (slot-put s k h x l) in
           let u : rev (slot s (find s n)) ≡ rev (slot s k) = ap (λ (j : ℕ). rev (slot s j)) i in
           omega (arith, a .1, f d)
@@ -70,23 +57,14 @@ module _ (s : List ℕ) (k : ℕ) (h : k < slots s) (x : List ℕ) (l : length x
           let y : rev (slot (put s k x) (find s n)) ≡ rev (slot s (find s n)) = ap rev (slot-other s k h x l (find s n) (eqb-false (find s n) k e)) in
           omega (arith, a .1)
 
--- the slot that a removal empties has the number named
-removed-number : (s : List ℕ) (n k : ℕ) → removePlan s n ≡ At k → num (slot s k) ≡ n
-unfolding removePlan
-removed-number s n k e =
-    let p1 = passed _ _ _ k e in
-    let p2 = passed _ _ _ k (p1 .1) in
-    let p3 = passed _ _ _ k (p2 .1) in
-    let f : find s n ≡ k = ap slotOf (p3 .1) in
-    sym (ap (λ (j : ℕ). num (slot s j)) f) ∙ find-has s n (there s n (p3 .0))
-
 module _ (o w : List ℕ) (keys : badKeys o w ≡ false) (bo : Bytes o) (bw : Bytes w) (n v : ℕ) (z : n ≡ 0 → ⊥) where
   module _ (s : List ℕ) (g : SoundStore s) (a : Above n v s) where
     above-remove : (i : ℕ) (p : Plan) → removePlan s i ≡ p → (i ≡ n → removeAnswer p ≡ removed.Done → ⊥) → Above n v (removeStore s p)
     above-remove i (Refuse x) e u = a
     above-remove i (At k) e u =
-        let h : k < slots s = remove-at s i k e in
-        let d : num (slot s k) ≡ i = removed-number s i k e in
+        let c = remove-says s i k e .1 in
+        let h : k < slots s = c .within in
+        let d : num (slot s k) ≡ i = c .number in
         let y : i ≡ n → ⊥ = λ q. u q refl in
         let m : num emptied ≡ n → ⊥ = λ q. z (sym q ∙ num-emptied) in
         above-put s k h emptied length-emptied n (ne-eqb (num emptied) n m ∙ sym (ne-eqb (num (slot s k)) n (λ q. y (sym d ∙ q)))) v
@@ -108,11 +86,11 @@ module _ (o w : List ℕ) (keys : badKeys o w ≡ false) (bo : Bytes o) (bw : By
     above-revise i u t hi bt (At k) e =
         let c = revise-says o w s i u t k e in
         let r : List ℕ = slot s k in
-        let hv : rev r + 1 < 65536 = omega (arith, rev-bound r (bytes-row 2112 s k (g .bytes)), c .below) in
+        let hv : rev r + 1 ≤ greatestRevision = omega (arith, rev-bound r (bytes-row recordSize s k (g .bytes)), c .below) in
         let x : List ℕ = sheet w i (rev r + 1) t in
-        let d : num x ≡ num r = num-sheet w i (rev r + 1) t hi ∙ sym (c .number) in
+        let d : num x ≡ num r = num-sheet w i (rev r + 1) t hi ∙ sym (c .at .number) in
         let y : rev x ≡ rev r + 1 = rev-sheet w i (rev r + 1) t hv in
-        above-put s k (c .within) x (length-sheet w i (rev r + 1) t bw bt (c .fits)) n (ap (λ (j : ℕ). eqb j n) d) v (λ q. omega arith) a
+        above-put s k (c .at .within) x (length-sheet w i (rev r + 1) t bw bt (c .fits)) n (ap (λ (j : ℕ). eqb j n) d) v (λ q. omega arith) a
 
     above-converted : (k : ℕ) (x : Outcome) → outcomeAt s k ≡ x → Above n v (convertedAt o w s k x)
     above-converted k Done e = a
@@ -163,7 +141,7 @@ module _ (o w : List ℕ) (keys : badKeys o w ≡ false) (bo : Bytes o) (bw : By
   accepted-says s t r (Refuse x) e q = let z : _≡_ {A = ℕ} 0 1 = ap stored-kind q in let y : ⊥ = omega arith in absurd y
   accepted-says s t r (At k) e q =
       let c = revise-says o w s n v t k e in
-      (omega (arith, c .within, c .place), c .some, c .seen ∙ ap (λ (j : ℕ). rev (slot s j)) (sym (c .place)))
+      (omega (arith, c .at .within, c .at .place), c .at .some, c .seen ∙ ap (λ (j : ℕ). rev (slot s j)) (sym (c .at .place)))
 
   -- and leaves a higher one
   above-accepted : (s t : List ℕ) → SoundStore s → n < 4294967296 → Bytes t → (r : ℕ) (p : Plan) → revisePlan o w s n v t ≡ p
@@ -172,13 +150,13 @@ module _ (o w : List ℕ) (keys : badKeys o w ≡ false) (bo : Bytes o) (bw : By
   above-accepted s t g hn bt r (At k) e q =
       let c = revise-says o w s n v t k e in
       let x : List ℕ = sheet w n (rev (slot s k) + 1) t in
-      let hv : rev (slot s k) + 1 < 65536 = omega (arith, rev-bound (slot s k) (bytes-row 2112 s k (g .bytes)), c .below) in
-      let lx : length x ≡ 2112 = length-sheet w n (rev (slot s k) + 1) t bw bt (c .fits) in
-      let d : num x ≡ num (slot s k) = num-sheet w n (rev (slot s k) + 1) t hn ∙ sym (c .number) in
+      let hv : rev (slot s k) + 1 ≤ greatestRevision = omega (arith, rev-bound (slot s k) (bytes-row recordSize s k (g .bytes)), c .below) in
+      let lx : length x ≡ recordSize = length-sheet w n (rev (slot s k) + 1) t bw bt (c .fits) in
+      let d : num x ≡ num (slot s k) = num-sheet w n (rev (slot s k) + 1) t hn ∙ sym (c .at .number) in
       let y : rev x ≡ rev (slot s k) + 1 = rev-sheet w n (rev (slot s k) + 1) t hv in
-      let f : find (put s k x) n ≡ k = find-same s k (c .within) x lx n (ap (λ (j : ℕ). eqb j n) d) ∙ c .place in
-      let i : rev (slot (put s k x) (find (put s k x) n)) ≡ rev x = ap (λ (j : ℕ). rev (slot (put s k x) j)) f ∙ ap rev (slot-put s k (c .within) x lx) in
-      (omega (arith, c .within, slots-put s k (c .within) x lx), omega (arith, c .seen))
+      let f : find (put s k x) n ≡ k = find-put s k (c .at .within) x lx n (ap (λ (j : ℕ). eqb j n) d) ∙ c .at .place in
+      let i : rev (slot (put s k x) (find (put s k x) n)) ≡ rev x = ap (λ (j : ℕ). rev (slot (put s k x) j)) f ∙ ap rev (slot-put s k (c .at .within) x lx) in
+      (omega (arith, c .at .within, slots-put s k (c .at .within) x lx), omega (arith, c .seen))
 
   -- ---- along the events, by position
 

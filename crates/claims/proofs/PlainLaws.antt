@@ -10,11 +10,10 @@ use lib.Dec.{eqb}
 use lib.ListN.{length, set, length-set}
 use lib.Seq.{getD-set-same, getD-set-other}
 use Rattle.slots.specs.Slots.{scan}
-use Rattle.slots.proofs.FindLaws.{lowest-le, lowest-has, lowest-below, lowest-is}
+use Rattle.slots.proofs.FindLaws.{lowest-le, lowest-has, lowest-below, lowest-is, scan-same}
 use Rattle.plans.specs.declared.Plan.the-variants.{At}
-use Rattle.plans.proofs.PlanLaws.{passed, slotOf}
+use Rattle.plans.proofs.PlanLaws.{passed, same-slot}
 use Rattle.claims.specs.Plain.{Place, nothing, numberOf, revisionOf, at, findIn, absentIn, addIn, reviseIn, removeIn}
-use Rattle.claims.proofs.ViewLaws.{scan-same}
 
 -- the test by which a place is found
 abbrev numbered : List Place → ℕ → ℕ → Bool
@@ -81,7 +80,7 @@ adds-at l n t k e =
     let p2 = passed _ _ _ k (p1 .1) in
     let p3 = passed _ _ _ k (p2 .1) in
     let p4 = passed _ _ _ k (p3 .1) in
-    let f : findIn l 0 ≡ k = ap slotOf (p4 .1) in
+    let f : findIn l 0 ≡ k = same-slot _ _ (p4 .1) in
     let h : findIn l 0 < length l = in-there l 0 (p4 .0) in
     record {
       some = eqb-false n 0 (p1 .0);
@@ -110,11 +109,11 @@ revises-at l n v t k e =
     let p3 = passed _ _ _ k (p2 .1) in
     let p4 = passed _ _ _ k (p3 .1) in
     let p5 = passed _ _ _ k (p4 .1) in
-    works-at l n k (p1 .0) (p3 .0) (ap slotOf (p5 .1))
+    works-at l n k (p1 .0) (p3 .0) (same-slot _ _ (p5 .1))
 
 pub removes-at : (l : List Place) (n k : ℕ) → removeIn l n ≡ At k → WorksAt l n k
 unfolding removeIn
 removes-at l n k e =
     let p1 = passed _ _ _ k e in
     let p2 = passed _ _ _ k (p1 .1) in
-    works-at l n k (p1 .0) (p2 .0) (ap slotOf (p2 .1))
+    works-at l n k (p1 .0) (p2 .0) (same-slot _ _ (p2 .1))

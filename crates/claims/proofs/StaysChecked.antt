@@ -7,35 +7,35 @@ use Prim.Native.Nat.{ℕ, _+_, _<_}
 use native.Mathlib.Omega.{arith}
 use Rattle.block.specs.Bytes.{Bytes}
 use Rattle.records.specs.Record.{num, rev}
-use Rattle.records.specs.Text.{sheet}
-use Rattle.records.proofs.SheetLaws.{num-sheet, length-sheet}
-use Rattle.slots.specs.Slots.{slot, emptied}
+use Rattle.sheets.specs.Text.{sheet}
+use Rattle.sheets.proofs.SheetLaws.{num-sheet, length-sheet}
+use Rattle.slots.specs.Slots.{slots, slot, emptied}
 use Rattle.slots.proofs.FindLaws.{find-lowest}
+use Rattle.slots.proofs.PutLaws.{num-emptied, length-emptied}
 use Rattle.plans.specs.declared.Plan.{Plan}
 use Rattle.plans.specs.declared.Plan.the-variants.{Refuse, At}
 use Rattle.plans.specs.Plans.{badKeys, addPlan, revisePlan, removePlan, stepPlan}
-use Rattle.plans.proofs.PlanLaws.{remove-at}
+use Rattle.plans.proofs.PlanLaws.{remove-says, add-says, revise-says}
 use Rattle.store.specs.declared.Outcome.{Outcome}
 use Rattle.store.specs.declared.Outcome.the-variants.{Done, Free, Damaged, Already, Converted}
 use Rattle.store.specs.Calls.{addStore, reviseStore, removeStore, outcomeAt, convertedAt, stepStore}
 use Rattle.claims.specs.Machine.{Event, reading, adding, revising, removing, stepping, Allowed, AllAllowed, State, next, final}
 use Rattle.claims.proofs.Simulation.{SoundStore}
-use Rattle.claims.proofs.Keeping.{num-emptied, length-emptied}
-use Rattle.claims.proofs.Effects.{add-says, revise-says, rekeyed, convert-says}
+use Rattle.claims.proofs.Effects.{rekeyed, convert-says}
 use Rattle.claims.proofs.Traces.{one-next}
 use Rattle.claims.proofs.Checking.{Apart, apart-put}
 
 module _ (o w : List ℕ) (bo : Bytes o) (bw : Bytes w) (s : List ℕ) (g : SoundStore s) (a : Apart s) where
   removed-apart : (n : ℕ) (p : Plan) → removePlan s n ≡ p → Apart (removeStore s p)
   removed-apart n (Refuse x) e = a
-  removed-apart n (At k) e = apart-put s k (remove-at s n k e) emptied length-emptied a (λ j hj nj z q. z num-emptied)
+  removed-apart n (At k) e = apart-put s k (remove-says s n k e .1 .within) emptied length-emptied a (λ j hj nj z q. z num-emptied)
 
   added-apart : (n : ℕ) (t : List ℕ) → n < 4294967296 → Bytes t → (p : Plan) → addPlan o w s n t ≡ p → Apart (addStore w s n t p)
   added-apart n t hn bt (Refuse x) e = a
   added-apart n t hn bt (At k) e =
       let c = add-says o w s n t k e in
       apart-put s k (c .within) (sheet w n 1 t) (length-sheet w n 1 t bw bt (c .fits)) a
-      (λ j hj nj z q. find-lowest s n j (omega (arith, c .new)) (q ∙ num-sheet w n 1 t hn))
+      (λ j hj nj z q. find-lowest (slots s) (slot s) n j (omega (arith, c .new)) (q ∙ num-sheet w n 1 t hn))
 
   revised-apart : (n v : ℕ) (t : List ℕ) → n < 4294967296 → Bytes t → (p : Plan) → revisePlan o w s n v t ≡ p → Apart (reviseStore w s n t p)
   revised-apart n v t hn bt (Refuse x) e = a
@@ -43,8 +43,8 @@ module _ (o w : List ℕ) (bo : Bytes o) (bw : Bytes w) (s : List ℕ) (g : Soun
       let c = revise-says o w s n v t k e in
       let x : List ℕ = sheet w n (rev (slot s k) + 1) t in
       let m : num x ≡ n = num-sheet w n (rev (slot s k) + 1) t hn in
-      apart-put s k (c .within) x (length-sheet w n (rev (slot s k) + 1) t bw bt (c .fits)) a
-      (λ j hj nj z q. nj (a j k hj (c .within) (λ y. z (sym q ∙ y)) (q ∙ m ∙ sym (c .number))))
+      apart-put s k (c .at .within) x (length-sheet w n (rev (slot s k) + 1) t bw bt (c .fits)) a
+      (λ j hj nj z q. nj (a j k hj (c .at .within) (λ y. z (sym q ∙ y)) (q ∙ m ∙ sym (c .at .number))))
 
   converted-apart : (k : ℕ) (x : Outcome) → outcomeAt s k ≡ x → Apart (convertedAt o w s k x)
   converted-apart k Done e = a

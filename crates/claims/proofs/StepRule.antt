@@ -1,20 +1,20 @@
 -- 01, step: it keeps every byte of the other slots.
 -- Assumes nothing.
-use mathlib.Core.Path.{_≡_, refl, sym, ap, _∙_}
+use mathlib.Core.Path.{_≡_, refl, sym, _∙_}
 use mathlib.Core.List.{List}
 use Prim.Native.Nat.{ℕ}
 use Rattle.block.specs.Bytes.{Bytes}
 use Rattle.slots.specs.Slots.{slot}
+use Rattle.slots.proofs.PutLaws.{slot-other}
 use Rattle.plans.specs.declared.Plan.{Plan}
 use Rattle.plans.specs.declared.Plan.the-variants.{Refuse, At}
 use Rattle.plans.specs.Plans.{stepPlan}
-use Rattle.plans.proofs.PlanLaws.{passed, slotOf}
+use Rattle.plans.proofs.PlanLaws.{step-says}
 use Rattle.store.specs.declared.Outcome.{Outcome}
 use Rattle.store.specs.declared.Outcome.the-variants.{Done, Free, Damaged, Already, Converted}
 use Rattle.store.specs.Calls.{outcomeAt, convertedAt, stepStore}
 use Rattle.claims.specs.Machine.{storeStep}
 use Rattle.claims.specs.Claims.{KeepsOthers}
-use Rattle.claims.proofs.ViewLaws.{slot-other}
 use Rattle.claims.proofs.Effects.{rekeyed, convert-says}
 
 module _ (o w : List ℕ) (bo : Bytes o) (bw : Bytes w) (s : List ℕ) (bs : Bytes s) (j : ℕ) where
@@ -28,13 +28,8 @@ module _ (o w : List ℕ) (bo : Bytes o) (bw : Bytes w) (s : List ℕ) (bs : Byt
       slot-other s k (c .within) (rekeyed o w s k) (c .whole) j z
 
   by-plan : (k : ℕ) → (j ≡ k → ⊥) → (p : Plan) → stepPlan o w s k ≡ p → slot (stepStore o w s p) j ≡ slot s j
-  unfolding stepPlan
   by-plan k z (Refuse x) e = refl
-  by-plan k z (At i) e =
-      let p1 = passed _ _ _ i e in
-      let p2 = passed _ _ _ i (p1 .1) in
-      let q : k ≡ i = ap slotOf (p2 .1) in
-      other-kept i (λ r. z (r ∙ sym q)) (outcomeAt s i) refl
+  by-plan k z (At i) e = other-kept i (λ r. z (r ∙ sym (step-says o w s k i e))) (outcomeAt s i) refl
 
 pub keeps-others : (o w : List ℕ) → Bytes o → Bytes w → KeepsOthers (storeStep o w)
 keeps-others o w bo bw s bs k j z = by-plan o w bo bw s bs j k z (stepPlan o w s k) refl

@@ -4,23 +4,16 @@
 use mathlib.Core.Path.{_≡_, refl, sym, ap, ap₂, _∙_}
 use mathlib.Core.Bool.{false}
 use mathlib.Core.List.{List, [], _∷_, _++_}
-use Prim.Native.Nat.{ℕ, _+_, _<_}
-use native.Mathlib.Omega.{arith}
-use borrow.Author.Tests.{eqb-false}
+use Prim.Native.Nat.{ℕ, _+_}
 use lib.ListN.{length, drop, length-set}
 use Rattle.block.specs.Bytes.{Bytes}
-use Rattle.block.proofs.RowLaws.{bytes-row}
 use Rattle.records.specs.Record.{num, rev, len}
-use Rattle.records.specs.Text.{textOf}
-use Rattle.records.proofs.FieldLaws.{sound-len}
-use Rattle.records.proofs.TextLaws.{length-textOf}
-use Rattle.slots.specs.Slots.{slots, slot, find}
-use Rattle.slots.proofs.FindLaws.{find-has}
-use Rattle.slots.proofs.SlotLaws.{length-slot}
+use Rattle.sheets.specs.Text.{textOf}
+use Rattle.slots.specs.Slots.{slots, slot}
 use Rattle.plans.specs.declared.Plan.{Plan}
 use Rattle.plans.specs.declared.Plan.the-variants.{Refuse, At}
-use Rattle.plans.specs.Plans.{badKeys, readPlan, addPlan, revisePlan, removePlan, stepPlan, readAtPlan}
-use Rattle.plans.proofs.PlanLaws.{passed, slotOf, there}
+use Rattle.plans.specs.Plans.{badKeys, readPlan, addPlan, revisePlan, removePlan, stepPlan}
+use Rattle.plans.proofs.PlanLaws.{used, read-says, revise-says}
 use Rattle.store.specs.declared.Text.the-variants.{Read}
 use Rattle.store.specs.declared.Stored.the-variants.{Revision}
 use Rattle.store.specs.Calls.{readAnswer, readBuffer, addAnswer, reviseAnswer, removeAnswer}
@@ -28,23 +21,8 @@ use Rattle.claims.specs.Plain.{Place, nothing, holding, revisionOf, text
 use Rattle.claims.specs.View.{plain}
 use Rattle.claims.specs.Machine.{Event, reading, adding, revising, removing, stepping, Allowed, AllAllowed, Answer, ofRead, ofStored, ofRemoved, State, answer, next, answers, final, listAnswer, listNext, listAnswers, listFinal}
 use Rattle.claims.proofs.ViewLaws.{length-plain}
-use Rattle.claims.proofs.Simulation.{SoundStore, held, read-plain, add-plain, revise-plain, remove-plain}
-use Rattle.claims.proofs.Effects.{revise-says, effect-remove, effect-add, effect-revise, effect-step}
-
--- a plan of read that ends at slot k: the slot is used
-read-used : (o w s : List ℕ) (n b k : ℕ) → readPlan o w s n b ≡ At k → (k < slots s) × (num (slot s k) ≡ 0 → ⊥)
-unfolding readPlan readAtPlan
-read-used o w s n b k e =
-    let p1 = passed _ _ _ k e in
-    let p2 = passed _ _ _ k (p1 .1) in
-    let p3 = passed _ _ _ k (p2 .1) in
-    let p4 = passed _ _ _ k (p3 .1) in
-    let p5 = passed _ _ _ k (p4 .1) in
-    let p6 = passed _ _ _ k (p5 .1) in
-    let p7 = passed _ _ _ k (p6 .1) in
-    let f : find s n ≡ k = ap slotOf (p7 .1) in
-    let h : find s n < slots s = there s n (p4 .0) in
-    (omega arith, λ q. eqb-false n 0 (p3 .0) (sym (find-has s n h) ∙ ap (λ (j : ℕ). num (slot s j)) f ∙ q))
+use Rattle.claims.proofs.Simulation.{SoundStore, held, read-plain, add-plain, revise-plain, remove-plain, long}
+use Rattle.claims.proofs.Effects.{effect-remove, effect-add, effect-revise, effect-step}
 
 -- ---- the list keeps its length
 
@@ -75,11 +53,10 @@ module _ (o w : List ℕ) (keys : badKeys o w ≡ false) (bo : Bytes o) (bw : By
         → (readAnswer s p ≡ readText (plain o w s) p) × (readBuffer o w s b p ≡ readInto (plain o w s) b p)
     read-same n b (Refuse x) e = (refl, refl)
     read-same n b (At k) e =
-        let c = read-used o w s n (length b) k e in
+        let c = read-says o w s n (length b) k e in
         let r : List ℕ = slot s k in
-        let d = sound-len r (g .each k (c .0)) (c .1) in
-        let q : at (plain o w s) k ≡ holding (num r) (rev r) (textOf o w r) = held o w s keys bo bw g k (c .0) (c .1) in
-        let m : length (textOf o w r) ≡ len r = length-textOf r o w bo bw (bytes-row 2112 s k (g .bytes)) (omega (arith, d, length-slot s k (c .0))) in (
+        let q : at (plain o w s) k ≡ holding (num r) (rev r) (textOf o w r) = held o w s keys bo bw g k (c .at .within) (used (c .at)) in
+        let m : length (textOf o w r) ≡ len r = long o w s keys bo bw g k (c .at .within) (used (c .at)) in (
           ap (λ (j : ℕ). Read j (rev r)) (sym m) ∙ ap (λ (x : Place). Read (length (textIn x)) (revisionOf x)) (sym q),
           ap (λ (j : ℕ). textOf o w r ++ drop j b) (sym m) ∙ ap (λ (x : Place). textIn x ++ drop (length (textIn x)) b) (sym q),
         )
@@ -96,8 +73,7 @@ module _ (o w : List ℕ) (keys : badKeys o w ≡ false) (bo : Bytes o) (bw : By
     revise-same n v t (Refuse x) e = refl
     revise-same n v t (At k) e =
         let a = revise-says o w s n v t k e in
-        let u : num (slot s k) ≡ 0 → ⊥ = λ q. a .some (sym (a .number) ∙ q) in
-        ap (λ (j : ℕ). Revision (j + 1)) (sym (ap revisionOf (held o w s keys bo bw g k (a .within) u)))
+        ap (λ (j : ℕ). Revision (j + 1)) (sym (ap revisionOf (held o w s keys bo bw g k (a .at .within) (used (a .at)))))
 
   -- one event
   one-answer : (e : Event) (st : State) → SoundStore (st .store) → answer o w e st ≡ listAnswer e (plain o w (st .store))

@@ -11,10 +11,9 @@ use lib.Seq.{take-at, drop-at, take-all}
 use Rattle.block.specs.Bytes.{Bytes}
 use Rattle.block.specs.Rows.{row}
 use Rattle.block.proofs.BytesLaws.{bytes-zeros, bytes-append}
-use Rattle.records.specs.Record.{num, mark, sound, recordOf, lead}
+use Rattle.records.specs.Record.{recordSize, textMost, num, mark, sound, recordOf, lead}
 use Rattle.records.proofs.RecordLaws.{num-record, mark-record, sound-record, length-record, bytes-lead}
-use Rattle.slots.specs.Slots.{slots, slot}
-use Rattle.plans.specs.Plans.{badSize}
+use Rattle.slots.specs.Slots.{slots, slot, badSize}
 use Rattle.claims.specs.Claims.{Passes}
 use Rattle.claims.proofs.Simulation.{SoundStore}
 use Rattle.claims.proofs.Checking.{Apart, good-passes}
@@ -29,7 +28,7 @@ module _ (n : ℕ) where
   length-text : length (replicate {A = ℕ} 16 0) ≡ 16
   length-text = length-replicate {A = ℕ} 16 0
 
-  length-clear : length (clear n) ≡ 2112
+  length-clear : length (clear n) ≡ recordSize
   unfolding clear
   length-clear = length-record n 1 0 (replicate 16 0) (omega (arith, length-text))
 
@@ -40,9 +39,9 @@ module _ (n : ℕ) where
   bytes-clear : Bytes (clear n)
   unfolding clear recordOf
   bytes-clear =
-      bytes-append (lead n 1 0 (length (replicate {A = ℕ} 16 0))) (replicate 16 0 ++ replicate (2096 - length (replicate {A = ℕ} 16 0)) 0)
+      bytes-append (lead n 1 0 (length (replicate {A = ℕ} 16 0))) (replicate 16 0 ++ replicate (textMost - length (replicate {A = ℕ} 16 0)) 0)
       (bytes-lead n 1 0 (length (replicate {A = ℕ} 16 0)) (omega arith))
-      (bytes-append (replicate 16 0) (replicate (2096 - length (replicate {A = ℕ} 16 0)) 0) (bytes-zeros 16) (bytes-zeros (2096 - length (replicate {A = ℕ} 16 0))))
+      (bytes-append (replicate 16 0) (replicate (textMost - length (replicate {A = ℕ} 16 0)) 0) (bytes-zeros 16) (bytes-zeros (textMost - length (replicate {A = ℕ} 16 0))))
 
   module _ (h : n < 4294967296) where
     pub num-clear : num (clear n) ≡ n
@@ -58,15 +57,15 @@ unfolding twoClear
 length-two = length-append (clear 1) (clear 2) ∙ ap₂ (λ (a b : ℕ). a + b) (length-clear 1) (length-clear 2)
 
 pub two-slots : slots twoClear ≡ 2
-two-slots = ap (λ (n : ℕ). n / 2112) length-two
+two-slots = ap (λ (n : ℕ). n / recordSize) length-two
 
 pub slot-0 : slot twoClear 0 ≡ clear 1
 unfolding twoClear row
-slot-0 = take-at (clear 1) (clear 2) 2112 (length-clear 1)
+slot-0 = take-at (clear 1) (clear 2) recordSize (length-clear 1)
 
 pub slot-1 : slot twoClear 1 ≡ clear 2
 unfolding twoClear row
-slot-1 = ap (take 2112) (drop-at (clear 1) (clear 2) 2112 (length-clear 1)) ∙ take-all 2112 (clear 2) (omega (arith, length-clear 2))
+slot-1 = ap (take recordSize) (drop-at (clear 1) (clear 2) recordSize (length-clear 1)) ∙ take-all recordSize (clear 2) (omega (arith, length-clear 2))
 
 -- what holds of both slots
 both : (P : ℕ → Type 0) → P 0 → P 1 → (k : ℕ) → k < 2 → P k
@@ -78,7 +77,7 @@ pub sound-two : SoundStore twoClear
 unfolding badSize twoClear
 sound-two =
     record {
-      size = ap (λ (n : ℕ). not (eqb (n % 2112) 0) || ltb 1024 (n / 2112)) length-two;
+      size = ap (λ (n : ℕ). not (eqb (n % recordSize) 0) || ltb 1024 (n / recordSize)) length-two;
       bytes = bytes-append (clear 1) (clear 2) (bytes-clear 1) (bytes-clear 2);
       each = λ k h. both (λ i. sound (slot twoClear i) ≡ true)
           (ap sound slot-0 ∙ sound-clear 1 (omega arith) (λ q. let y : ⊥ = omega arith in y))

@@ -10,10 +10,11 @@ use native.Mathlib.Omega.{arith}
 use borrow.Author.Tests.{eqb-true, ltb-true, ltb-false}
 use lib.Dec.{eqb, ltb}
 use lib.ListN.{length, set}
-use Rattle.block.proofs.RowLaws.{length-putRow, row-put, row-put-below, row-put-above}
-use Rattle.records.specs.Record.{num, rev}
-use Rattle.records.specs.Text.{textOf}
-use Rattle.slots.specs.Slots.{slots, slot, put, scan, lowest, find}
+use Rattle.records.specs.Record.{recordSize, num, rev}
+use Rattle.sheets.specs.Text.{textOf}
+use Rattle.slots.specs.Slots.{slots, slot, put, lowest, find}
+use Rattle.slots.proofs.FindLaws.{hasNum, scan-same, find-by}
+use Rattle.slots.proofs.PutLaws.{slots-put, slot-put, slot-other}
 use Rattle.claims.specs.Plain.{Place, nothing, holding, numberOf, at, findIn}
 use Rattle.claims.specs.View.{placeOf, placesFrom, plain}
 
@@ -50,14 +51,6 @@ set-places f g i (suc n) (suc k) h e =
     ap₂ (λ (x : Place) (l : List Place). x ∷ l) (sym (e i (λ q. let y : ⊥ = omega arith in y)))
     (set-places f g (suc i) n k (le-of-suc-le-suc h) (λ j a. e j (λ q. a (q ∙ sym m))) ∙ ap (λ (j : ℕ). set (placesFrom f (suc i) n) k (g j)) m)
 
--- ---- two tests that agree find the same
-
-pub scan-same : (p q : ℕ → Bool) (i n : ℕ) → ((j : ℕ) → i ≤ j → j < i + n → p j ≡ q j) → scan p i n ≡ scan q i n
-unfolding scan
-scan-same p q i zero h = refl
-scan-same p q i (suc n) h =
-    ap₂ (λ (t : Bool) (m : ℕ). cond t i m) (h i (omega arith) (omega arith)) (scan-same p q (suc i) n (λ j a b. h j (omega arith) (omega arith)))
-
 -- ---- the store as a list
 
 number-place : (o w r : List ℕ) → numberOf (placeOf o w r) ≡ num r
@@ -67,14 +60,6 @@ number-place o w r = by-test (eqb (num r) 0) refl
     by-test : (t : Bool) → eqb (num r) 0 ≡ t → numberOf (cond t nothing (holding (num r) (rev r) (textOf o w r))) ≡ num r
     by-test true e = sym (eqb-true (num r) 0 e)
     by-test false e = refl
-
--- the other slots are kept
-pub slot-other : (s : List ℕ) (k : ℕ) → k < slots s → (x : List ℕ) → length x ≡ 2112 → (j : ℕ) → (j ≡ k → ⊥) → slot (put s k x) j ≡ slot s j
-slot-other s k h x l j a = by-side (ltb j k) refl
-  where
-    by-side : (t : Bool) → ltb j k ≡ t → slot (put s k x) j ≡ slot s j
-    by-side true e = let b : j < k = ltb-true j k e in row-put-below 2112 s k (omega arith) x l j (omega arith)
-    by-side false e = let b : k ≤ j = ltb-false j k e in row-put-above 2112 s k (omega arith) x l j (omega (arith, a))
 
 module _ (o w s : List ℕ) where
   pub length-plain : length (plain o w s) ≡ slots s
@@ -89,22 +74,21 @@ module _ (o w s : List ℕ) where
 
   -- a sheet is found at the same place
   pub find-plain : (n : ℕ) → findIn (plain o w s) n ≡ find s n
-  unfolding findIn find
+  unfolding findIn
   find-plain n =
       ap (lowest (λ k. eqb (numberOf (at (plain o w s) k)) n)) length-plain
-      ∙ scan-same (λ k. eqb (numberOf (at (plain o w s) k)) n) (λ k. eqb (num (slot s k)) n) 0 (slots s)
+      ∙ scan-same (λ k. eqb (numberOf (at (plain o w s) k)) n) (hasNum (slot s) n) 0 (slots s)
       (λ j a b. ap (λ (m : ℕ). eqb m n) (ap numberOf (at-plain j (omega arith)) ∙ number-place o w (slot s j)))
+      ∙ sym (find-by (slots s) (slot s) n)
 
   -- a slot written anew changes its place alone
-  pub put-plain : (k : ℕ) (x : List ℕ) → k < slots s → length x ≡ 2112 → plain o w (put s k x) ≡ set (plain o w s) k (placeOf o w x)
+  pub put-plain : (k : ℕ) (x : List ℕ) → k < slots s → length x ≡ recordSize → plain o w (put s k x) ≡ set (plain o w s) k (placeOf o w x)
   unfolding plain
   put-plain k x h l =
-      let g : k * 2112 + 2112 ≤ length s = omega arith in
-      let m : length (put s k x) ≡ length s = length-putRow 2112 s k g x l in
-      let c : slots (put s k x) ≡ slots s = omega arith in
+      let c : slots (put s k x) ≡ slots s = slots-put s k h x l in
       let e : 0 + k ≡ k = omega arith in
       ap (placesFrom (λ j. placeOf o w (slot (put s k x) j)) 0) c
       ∙ set-places (λ j. placeOf o w (slot s j)) (λ j. placeOf o w (slot (put s k x) j)) 0 (slots s) k h
       (λ j a. ap (placeOf o w) (sym (slot-other s k h x l j (λ q. a (q ∙ sym e)))))
       ∙ ap (λ (j : ℕ). set (placesFrom (λ i. placeOf o w (slot s i)) 0 (slots s)) k (placeOf o w (slot (put s k x) j))) e
-      ∙ ap (λ (r : List ℕ). set (placesFrom (λ i. placeOf o w (slot s i)) 0 (slots s)) k (placeOf o w r)) (row-put 2112 s k g x l)
+      ∙ ap (λ (r : List ℕ). set (placesFrom (λ i. placeOf o w (slot s i)) 0 (slots s)) k (placeOf o w r)) (slot-put s k h x l)

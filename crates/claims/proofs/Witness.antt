@@ -12,13 +12,13 @@ use lib.Dec.{lit<}
 use lib.ListN.{replicate}
 use Rattle.block.specs.Bytes.{Bytes}
 use Rattle.block.proofs.BytesLaws.{bytes-zeros, bytes-cons}
-use Rattle.records.specs.Record.{num, rev}
-use Rattle.records.specs.Text.{textOf}
+use Rattle.records.specs.Record.{textMost, num, rev}
+use Rattle.sheets.specs.Text.{textOf}
 use Rattle.records.proofs.RecordLaws.{rev-record, stored-record}
-use Rattle.records.proofs.TextLaws.{text-clear}
-use Rattle.slots.specs.Slots.{slots, slot, scan}
-use Rattle.plans.specs.declared.Refusal.the-variants.{OtherRevision}
-use Rattle.plans.specs.Plans.{guard, badSize, badText}
+use Rattle.sheets.proofs.TextLaws.{text-clear}
+use Rattle.slots.specs.Slots.{slots, slot, scan, badSize}
+use Rattle.numbers.specs.declared.Refusal.the-variants.{OtherRevision}
+use Rattle.plans.specs.Plans.{guard, badLength}
 use Rattle.checking.specs.Check.{checkAnswer}
 use Rattle.store.specs.declared.Text.the-variants.{Read}
 use Rattle.store.specs.declared.Stored.the-variants.{Revision, Refused}
@@ -62,19 +62,19 @@ abbrev greatest : ℕ
 greatest = 4294967295
 
 abbrev text : List ℕ
-text = replicate 2096 255
+text = replicate textMost 255
 
 abbrev shorter : List ℕ
 shorter = replicate 16 255
 
 pub read-allowed : Allowed (reading greatest text)
-read-allowed = (lit< tt, bytes-full 2096)
+read-allowed = (lit< tt, bytes-full textMost)
 
 pub add-allowed : Allowed (adding greatest text)
-add-allowed = (lit< tt, bytes-full 2096)
+add-allowed = (lit< tt, bytes-full textMost)
 
 pub revision-allowed : Allowed (revising greatest greatest text)
-revision-allowed = (lit< tt, lit< tt, bytes-full 2096)
+revision-allowed = (lit< tt, lit< tt, bytes-full textMost)
 
 pub removal-allowed : Allowed (removing greatest)
 removal-allowed = lit< tt
@@ -132,18 +132,18 @@ pub each-accepted : answers short long events start
     ≡ ofRemoved Done
     ∷ ofStored (Revision 1)
     ∷ ofStep
-    ∷ ofRead (Read 2096 1) text
+    ∷ ofRead (Read textMost 1) text
     ∷ ofStored (Revision 2)
     ∷ ofStored (Refused OtherRevision)
     ∷ ofStored (Refused OtherRevision)
     ∷ ofStep
     ∷ ofRemoved Done
     ∷ []
-unfolding readIn addIn reviseIn removeIn findIn scan guard badText
+unfolding readIn addIn reviseIn removeIn findIn scan guard badLength
 each-accepted = answers-as-a-list short long key-48 key-64 start (sound-two .bytes) two-pass events allowed ∙ ap (listAnswers events) two-sheets
 
 pub list-left : plain short long (final short long events start .store) ≡ nothing ∷ holding 2 1 (replicate 16 0) ∷ []
-unfolding readIn addIn reviseIn removeIn findIn scan guard badText
+unfolding readIn addIn reviseIn removeIn findIn scan guard badLength
 list-left = holds-the-list short long key-48 key-64 start (sound-two .bytes) two-pass events allowed ∙ ap (listFinal events) two-sheets
 
 pub passes-after : Passes (final short long events start .store)
@@ -167,7 +167,7 @@ no-change : (n c : ℕ) (e : Event) (a : Answer) → Changed n e a → e ≡ ste
 no-change n c e a (revised-anew v t r) q = let z : _≡_ {A = ℕ} 0 1 = cc in let y : ⊥ = omega arith in y
 no-change n c e a taken-out q = let z : _≡_ {A = ℕ} 0 1 = cc in let y : ⊥ = omega arith in y
 
-pub added-is-read : answerAt (answers short long events start) 3 ≡ ofRead (Read 2096 1) text
+pub added-is-read : answerAt (answers short long events start) 3 ≡ ofRead (Read textMost 1) text
 added-is-read =
     read-back short long key-48 key-64 start (sound-two .bytes) two-pass events allowed greatest text 1 1 3
     (omega arith) accepted step-only text refl (omega arith)

@@ -7,8 +7,9 @@ use mathlib.Core.List.{List, [], _++_}
 use Prim.Native.Nat.{ℕ, _+_}
 use lib.Dec.{eqb, ltb}
 use lib.ListN.{length, getD, drop, set}
+use Rattle.records.specs.Record.{greatestRevision}
 use Rattle.slots.specs.Slots.{lowest}
-use Rattle.plans.specs.declared.Refusal.the-variants.{SheetZero, TextLength, NoSheet, OtherRevision, LastRevision, NoRoom, SheetThere, BufferShort}
+use Rattle.numbers.specs.declared.Refusal.the-variants.{SheetZero, TextLength, NoSheet, OtherRevision, LastRevision, NoFreeSlot, SheetPresent, BufferLength}
 use Rattle.plans.specs.declared.Plan.{Plan}
 use Rattle.plans.specs.declared.Plan.the-variants.{Refuse, At}
 use Rattle.plans.specs.Plans.{guard, badText}
@@ -51,11 +52,11 @@ absentIn l n = eqb (findIn l n) (length l)
 unfoldable pub readIn : List Place → ℕ → ℕ → Plan
 readIn l n b =
     guard (eqb n 0) SheetZero
-    (guard (absentIn l n) NoSheet (guard (ltb b (length (textIn (at l (findIn l n))))) BufferShort (At (findIn l n))))
+    (guard (absentIn l n) NoSheet (guard (ltb b (length (textIn (at l (findIn l n))))) BufferLength (At (findIn l n))))
 
 unfoldable pub addIn : List Place → ℕ → List ℕ → Plan
 addIn l n t =
-    guard (eqb n 0) SheetZero (guard (badText t) TextLength (guard (not (absentIn l n)) SheetThere (guard (absentIn l 0) NoRoom (At (findIn l 0)))))
+    guard (eqb n 0) SheetZero (guard (badText t) TextLength (guard (not (absentIn l n)) SheetPresent (guard (absentIn l 0) NoFreeSlot (At (findIn l 0)))))
 
 unfoldable pub reviseIn : List Place → ℕ → ℕ → List ℕ → Plan
 reviseIn l n v t =
@@ -63,7 +64,7 @@ reviseIn l n v t =
     (guard (badText t) TextLength
     (guard (absentIn l n) NoSheet
     (guard (not (eqb v (revisionOf (at l (findIn l n))))) OtherRevision
-    (guard (eqb (revisionOf (at l (findIn l n))) 65535) LastRevision (At (findIn l n))))))
+    (guard (eqb (revisionOf (at l (findIn l n))) greatestRevision) LastRevision (At (findIn l n))))))
 
 unfoldable pub removeIn : List Place → ℕ → Plan
 removeIn l n = guard (eqb n 0) SheetZero (guard (absentIn l n) NoSheet (At (findIn l n)))

@@ -5,7 +5,7 @@ use mathlib.Core.List.{List, [], _∷_}
 use Prim.Native.Nat.{ℕ, zero, suc}
 use lib.Dec.{eqb}
 use Rattle.records.specs.Record.{num, rev}
-use Rattle.records.specs.Text.{textOf}
+use Rattle.sheets.specs.Text.{textOf}
 use Rattle.slots.specs.Slots.{slots, slot}
 use Rattle.claims.specs.Plain.{Place, nothing, holding}
 

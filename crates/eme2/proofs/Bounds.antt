@@ -1,4 +1,4 @@
--- 01's numbers of the transform in plain inequalities: a call gets each exactly where they hold. The tests of the ladder say the same of a
+-- 01's numbers of the transform in plain inequalities: a call gets each exactly if they hold. The tests of the ladder say the same of a
 -- length itself, however great it is.
 -- Assumes nothing.
 use mathlib.Core.Path.{_≡_, refl, sym, ap, ap₂, _∙_}
@@ -15,7 +15,7 @@ use Rattle.eme2.specs.Transform.{keyTaken, badMessage, badData, number}
 
 -- ---- the tests
 
--- a message is refused exactly where it is below 16 bytes or above 65,536
+-- a message is refused exactly if it is below 16 bytes or above 65,536
 message-refused : (m : List ℕ) → (length m < 16) ⊎ (65536 < length m) → badMessage m ≡ true
 unfolding badMessage
 message-refused m =
@@ -37,7 +37,7 @@ message-good m e =
     let t = neither (ltb (length m) 16) (ltb 65536 (length m)) e in
     (ltb-false (length m) 16 (t .0), ltb-false 65536 (length m) (t .1))
 
--- associated data exactly where it is above 1,024
+-- associated data exactly if it is above 1,024
 data-refused : (ad : List ℕ) → 1024 < length ad → badData ad ≡ true
 unfolding badData
 data-refused ad h = lt-ltb 1024 (length ad) h

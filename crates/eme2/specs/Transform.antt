@@ -5,6 +5,8 @@ use mathlib.Core.List.{List}
 use Prim.Native.Nat.{ℕ, _-_}
 use lib.Dec.{eqb, ltb}
 use lib.ListN.{length, take, drop}
+use Rattle.numbers.specs.declared.Refusal.the-variants.{KeyLength, MessageLength, DataLength}
+use Rattle.numbers.specs.Numbers.{paper}
 use Rattle.aes.specs.Aes.{keySize, aes}
 use Rattle.mode.specs.Wide.{wide}
 use Rattle.mode.specs.TStar.{eme2TStar}
@@ -32,12 +34,12 @@ badData ad = ltb 1024 (length ad)
 
 -- the numbers of 01 in their order
 unfoldable pub number : List ℕ → List ℕ → List ℕ → ℕ
-number k ad m = cond (not (keyTaken k)) 1 (cond (badMessage m) 2 (cond (badData ad) 3 0))
+number k ad m = cond (not (keyTaken k)) (paper KeyLength) (cond (badMessage m) (paper MessageLength) (cond (badData ad) (paper DataLength) 0))
 
 -- enciphering, or with `back` deciphering; T_star is made with Enc either way
 unfoldable pub eme2 : Bool → List ℕ → List ℕ → List ℕ → List ℕ
 eme2 back k ad m = wide (aes back (Key1 k)) (Key2 k) (eme2TStar (aes false (Key1 k)) (Key3 k) ad) m
 
--- the message afterwards: as it was where the call is refused
+-- the message afterwards: as it was if the call is refused
 unfoldable pub afterwards : Bool → List ℕ → List ℕ → List ℕ → List ℕ
 afterwards back k ad m = cond (eqb (number k ad m) 0) (eme2 back k ad m) m

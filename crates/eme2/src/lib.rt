@@ -8,14 +8,8 @@ ghost use Prim.Native.Nat.{_≤_};
 ghost use lib.ListN.{length};
 ghost use Rattle.eme2.specs.Transform.{keyTaken, eme2};
 ghost use Rattle.eme2.specs.Calls.{Called};
-
-// What a call answers: 01's numbers 0, 1, 2 and 3.
-pub enum Answer {
-    Done,
-    KeyLength,
-    MessageLength,
-    DataLength,
-}
+use numbers::Answer;
+use numbers::Refusal;
 
 // Overwrites the message with its encipherment under the key and the associated data.
 pub fn encipher(key: &[u8], ad: &[u8], message: &mut [u8]) -> Answer
@@ -36,16 +30,16 @@ fn call(back: bool, key: &[u8], ad: &[u8], message: &mut [u8]) -> Answer
     ensures { λ r. ⌜ Called back (now (key .entry)) (now (ad .entry)) (now (message .entry)) r (now (message .exit)) ⌝ }
 {
     if !key_taken(key) {
-        return Answer::KeyLength;
+        return Answer::Refused(Refusal::KeyLength);
     }
     if message.len() < 16 {
-        return Answer::MessageLength;
+        return Answer::Refused(Refusal::MessageLength);
     }
     if message.len() > 65536 {
-        return Answer::MessageLength;
+        return Answer::Refused(Refusal::MessageLength);
     }
     if ad.len() > 1024 {
-        return Answer::DataLength;
+        return Answer::Refused(Refusal::DataLength);
     }
     transform(back, key, ad, message);
     Answer::Done

@@ -5,9 +5,11 @@
 //     s KEY           sets the key up: 0 and the last word of the schedule, or 1 where AES does not take the key
 //
 // KEY and BLOCK are in hex, of at most 64 bytes, and may be empty; one blank stands before each.
-use aes::Answer;
 use libc::STDIN_FILENO;
 use libc::STDOUT_FILENO;
+use numbers::Answer;
+use numbers::Refusal;
+use numbers::answer_number;
 ghost use Prim.Native.Nat.{_+_, _≤_, _<_};
 ghost use lib.ListN.{length};
 
@@ -66,7 +68,7 @@ fn answer(kind: u8, key: &[u8], block: &mut [u8]) {
 fn set_up(key: &[u8]) {
     let n = key.len();
     if !aes::key_size(n) {
-        print_number(Answer::KeyLength);
+        print_number(Answer::Refused(Refusal::KeyLength));
         return;
     }
     let keys = aes::key_setup(key);
@@ -80,10 +82,12 @@ fn set_up(key: &[u8]) {
 }
 
 fn print_number(a: Answer) {
-    match a {
-        Answer::Done => io::write_all(STDOUT_FILENO, b"0 "),
-        Answer::KeyLength => io::write_all(STDOUT_FILENO, b"1 "),
-        Answer::BlockLength => io::write_all(STDOUT_FILENO, b"2 "),
+    let n = answer_number(a);
+    match n {
+        0 => io::write_all(STDOUT_FILENO, b"0 "),
+        1 => io::write_all(STDOUT_FILENO, b"1 "),
+        2 => io::write_all(STDOUT_FILENO, b"2 "),
+        _ => io::write_all(STDOUT_FILENO, b"? "),
     }
     ;
 }

@@ -1,20 +1,15 @@
 // The calls for C: thin, over numbers and byte slices. Each answers 0, or 01's number of the refusal, and its contract gives the
 // number and every byte of each lent slice afterwards, for every input. `host/include/lagunedo.h` is their manual.
 ghost use mathlib.Core.Bool.{true, false};
-ghost use mathlib.Core.Path.{_≡_};
-ghost use Rattle.aes.specs.Calls.{paper};
 ghost use Rattle.lagunedo.specs.Calls.{AesCalled, Eme2Called};
 // The step over a job that is lent.
 mod job;
-// 01's numbers of EME2's answers.
-mod messages;
 // The store's calls.
 mod sheets;
 
-use aes::Answer;
 pub use job::Job;
 pub use job::lagunedo_job_step;
-use messages::eme2_number;
+use numbers::answer_number;
 pub use sheets::lagunedo_add;
 pub use sheets::lagunedo_check;
 pub use sheets::lagunedo_read;
@@ -27,7 +22,7 @@ pub use sheets::lagunedo_step;
 pub extern "C" fn lagunedo_aes_encipher(key: &[u8], block: &mut [u8]) -> u32
     ensures { λ r. ⌜ AesCalled false (now (key .entry)) (now (block .entry)) r (now (block .exit)) ⌝ }
 {
-    aes_number(aes::encipher(key, block))
+    answer_number(aes::encipher(key, block))
 }
 
 // Overwrites the block with its decipherment under the key; 1, 2.
@@ -35,7 +30,7 @@ pub extern "C" fn lagunedo_aes_encipher(key: &[u8], block: &mut [u8]) -> u32
 pub extern "C" fn lagunedo_aes_decipher(key: &[u8], block: &mut [u8]) -> u32
     ensures { λ r. ⌜ AesCalled true (now (key .entry)) (now (block .entry)) r (now (block .exit)) ⌝ }
 {
-    aes_number(aes::decipher(key, block))
+    answer_number(aes::decipher(key, block))
 }
 
 // Overwrites the message with its encipherment under the key and the associated data; 1, 2, 3.
@@ -43,7 +38,7 @@ pub extern "C" fn lagunedo_aes_decipher(key: &[u8], block: &mut [u8]) -> u32
 pub extern "C" fn lagunedo_eme2_encipher(key: &[u8], ad: &[u8], message: &mut [u8]) -> u32
     ensures { λ r. ⌜ Eme2Called false (now (key .entry)) (now (ad .entry)) (now (message .entry)) r (now (message .exit)) ⌝ }
 {
-    eme2_number(eme2::encipher(key, ad, message))
+    answer_number(eme2::encipher(key, ad, message))
 }
 
 // Overwrites the message with its decipherment under the key and the associated data; 1, 2, 3.
@@ -51,16 +46,5 @@ pub extern "C" fn lagunedo_eme2_encipher(key: &[u8], ad: &[u8], message: &mut [u
 pub extern "C" fn lagunedo_eme2_decipher(key: &[u8], ad: &[u8], message: &mut [u8]) -> u32
     ensures { λ r. ⌜ Eme2Called true (now (key .entry)) (now (ad .entry)) (now (message .entry)) r (now (message .exit)) ⌝ }
 {
-    eme2_number(eme2::decipher(key, ad, message))
-}
-
-// 01's number of an answer of AES.
-fn aes_number(a: Answer) -> u32
-    ensures { λ r. ⌜ r ≡ paper a ⌝ }
-{
-    match a {
-        Answer::Done => 0,
-        Answer::KeyLength => 1,
-        Answer::BlockLength => 2,
-    }
+    answer_number(eme2::decipher(key, ad, message))
 }

@@ -9,10 +9,10 @@ use borrow.Author.Tests.{lt-ltb, le-ltb}
 use lib.Dec.{ltb}
 use lib.ListN.{length}
 use Rattle.records.specs.Record.{num, rev, mark, len}
-use Rattle.slots.specs.Slots.{slots, slot}
-use Rattle.plans.specs.declared.Refusal.{Refusal}
-use Rattle.plans.specs.declared.Refusal.the-variants.{StoreSize}
-use Rattle.plans.specs.Plans.{paper, badSize}
+use Rattle.slots.specs.Slots.{slots, slot, badSize}
+use Rattle.numbers.specs.declared.Refusal.{Refusal}
+use Rattle.numbers.specs.declared.Refusal.the-variants.{StoreLength}
+use Rattle.plans.specs.Plans.{paper}
 use Rattle.checking.specs.declared.Checked.{Checked}
 use Rattle.checking.specs.declared.Checked.the-variants.{Fault, Refused}
 use Rattle.checking.specs.Check.{firstFault, counts, checkAnswer}
@@ -59,7 +59,7 @@ module _ (s : List ℕ) where
       ap (λ (t : Bool). cond t tooLong (report s (checkAnswer s))) (le-ltb most (length s) h) ∙ ap (report s) (sym e)
 
   -- check refuses nothing but the size
-  size-alone : (a b : Bool) (x : Refusal) → Refused x ≡ cond a (Refused StoreSize) (cond b (Fault (firstFault s)) (counts s)) → x ≡ StoreSize
+  size-alone : (a b : Bool) (x : Refusal) → Refused x ≡ cond a (Refused StoreLength) (cond b (Fault (firstFault s)) (counts s)) → x ≡ StoreLength
   size-alone true b x e = cc
   size-alone false true x e = cc
   size-alone false false x e = cc

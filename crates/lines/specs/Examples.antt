@@ -6,8 +6,7 @@ use Prim.Native.Nat.{ℕ}
 use lib.ListN.{replicate}
 use Rattle.block.specs.Rows.{row}
 use Rattle.records.specs.Record.{num, rev, mark, len, allZero, soundUsed, sound}
-use Rattle.slots.specs.Slots.{scan, tally, find}
-use Rattle.plans.specs.Plans.{badSize}
+use Rattle.slots.specs.Slots.{scan, tally, find, badSize}
 use Rattle.checking.specs.Check.{faulty, firstFault, counted, checkAnswer}
 use Rattle.lines.specs.Decimal.{digits, decimal}
 use Rattle.lines.specs.Listing.{tooLong, refused, faultAt, usedWord, freeWord, clearWord, oldWord, newWord, field, named, line, slotLine, lines, countsLine, listing}

@@ -7,7 +7,7 @@ use mathlib.Core.List.{List, [], _∷_, _++_}
 use Prim.Native.Nat.{ℕ, zero, suc, _*_}
 use lib.Dec.{ltb}
 use lib.ListN.{length}
-use Rattle.records.specs.Record.{num, rev, mark, len}
+use Rattle.records.specs.Record.{recordSize, num, rev, mark, len}
 use Rattle.slots.specs.Slots.{slots, slot}
 use Rattle.plans.specs.Plans.{paper}
 use Rattle.checking.specs.declared.Checked.{Checked}
@@ -18,7 +18,7 @@ use Rattle.lines.specs.Laid.{overlay}
 
 -- at most 31 slots
 abbrev pub most : ℕ
-most = 31 * 2112
+most = 31 * recordSize
 
 -- ---- words
 

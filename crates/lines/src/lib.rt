@@ -17,7 +17,7 @@ use numbers::named;
 use table::used_lines;
 
 // 31 slots.
-const MOST: usize = 31 * 2112;
+const MOST: usize = 31 * RECORD_SIZE;
 
 // Writes the listing of the store to the front of `out`, as far as it fits, keeps the rest of `out`, and answers the length of the whole
 // listing, which is at most 4,096.

@@ -2,6 +2,7 @@
 ghost use mathlib.Core.Path.{_≡_};
 ghost use Prim.Native.Nat.{_+_, _≤_, _<_};
 ghost use lib.ListN.{length};
+ghost use Rattle.records.specs.Record.{recordSize};
 ghost use Rattle.slots.specs.Slots.{slots};
 ghost use Rattle.lines.specs.Laid.{room, Laid};
 ghost use Rattle.lines.specs.Listing.{line, slotLine, lines};
@@ -27,8 +28,8 @@ fn slot_line(out: &mut [u8], at: usize, store: &[u8], k: usize) -> usize
     requires { ⌜ (at + 105 ≤ room) × (k < slots (now store)) ⌝ }
     ensures { λ n. ⌜ (Laid (slotLine (now (store .entry)) k) at (now (out .entry)) n (now (out .exit))) × (n ≤ at + 105) ⌝ }
 {
-    let from = k * 2112;
-    let end = from + 2112;
+    let from = k * RECORD_SIZE;
+    let end = from + RECORD_SIZE;
     if records::number(&store[from..end]) == 0 {
         return at;
     }
@@ -37,7 +38,7 @@ fn slot_line(out: &mut [u8], at: usize, store: &[u8], k: usize) -> usize
 
 // Slot, sheet, revision, mark, length.
 fn line(out: &mut [u8], at: usize, k: usize, r: &[u8]) -> usize
-    requires { ⌜ (at + 105 ≤ room) × (length (now r) ≡ 2112) ⌝ }
+    requires { ⌜ (at + 105 ≤ room) × (length (now r) ≡ recordSize) ⌝ }
     ensures { λ n. ⌜ (Laid (line k (now (r .entry))) at (now (out .entry)) n (now (out .exit))) × (n ≤ at + 105) ⌝ }
 {
     let at = field(out, at, k, b' ');

@@ -35,7 +35,7 @@ unfolding guard
 no b x p e = ap (λ (t : Bool). guard t x p) e
 
 -- what follows a test needs to agree only if the test lets through
-past : (b : Bool) (x : Refusal) (p q : Plan) → (b ≡ false → p ≡ q) → guard b x p ≡ guard b x q
+pub past : (b : Bool) (x : Refusal) (p q : Plan) → (b ≡ false → p ≡ q) → guard b x p ≡ guard b x q
 unfolding guard
 past true x p q h = refl
 past false x p q h = h refl
@@ -51,11 +51,11 @@ slotOf : Plan → ℕ
 slotOf (Refuse x) = 0
 slotOf (At k) = k
 
-same-slot : (j k : ℕ) → At j ≡ At k → j ≡ k
+pub same-slot : (j k : ℕ) → At j ≡ At k → j ≡ k
 unfolding slotOf
 same-slot j k e = ap slotOf e
 
-passed : (b : Bool) (x : Refusal) (p : Plan) (k : ℕ) → guard b x p ≡ At k → (b ≡ false) × (p ≡ At k)
+pub passed : (b : Bool) (x : Refusal) (p : Plan) (k : ℕ) → guard b x p ≡ At k → (b ≡ false) × (p ≡ At k)
 unfolding guard
 passed true x p k e = absurd (never x k e)
 passed false x p k e = (refl, e)

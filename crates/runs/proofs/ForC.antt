@@ -9,8 +9,8 @@ use lib.ListN.{List·getD-map}
 use Rattle.block.specs.Bytes.{Bytes}
 use Rattle.slots.specs.Slots.{slots}
 use Rattle.plans.specs.declared.Plan.{Plan}
-use Rattle.plans.specs.declared.Refusal.{Refusal}
-use Rattle.plans.specs.declared.Refusal.the-variants as refusal
+use Rattle.numbers.specs.declared.Refusal.{Refusal}
+use Rattle.numbers.specs.declared.Refusal.the-variants as refusal
 use Rattle.plans.specs.Plans.{paper}
 use Rattle.store.specs.declared.Stored.the-variants.{Revision, Refused}
 use Rattle.store.specs.declared.Removed.the-variants as removed
@@ -34,16 +34,16 @@ some-number : (x : Refusal) → 1 ≤ paper x
 some-number refusal.KeyLength = omega arith
 some-number refusal.MessageLength = omega arith
 some-number refusal.DataLength = omega arith
-some-number refusal.StoreSize = omega arith
+some-number refusal.StoreLength = omega arith
 some-number refusal.SheetZero = omega arith
 some-number refusal.TextLength = omega arith
 some-number refusal.NoSheet = omega arith
 some-number refusal.OtherRevision = omega arith
 some-number refusal.LastRevision = omega arith
-some-number refusal.NoRoom = omega arith
-some-number refusal.SheetThere = omega arith
+some-number refusal.NoFreeSlot = omega arith
+some-number refusal.SheetPresent = omega arith
 some-number refusal.Unsound = omega arith
-some-number refusal.BufferShort = omega arith
+some-number refusal.BufferLength = omega arith
 some-number refusal.LengthChanged = omega arith
 
 -- ---- from what a call gave back to the answer, and to the call from its event

@@ -6,9 +6,8 @@ use mathlib.Core.List.{List}
 use Prim.Native.Nat.{ℕ, zero, suc, _+_, _<_}
 use native.Mathlib.Omega.{arith}
 use lib.Dec.{ltb}
-use Rattle.slots.specs.Slots.{slots, slot, tally}
-use Rattle.plans.specs.declared.Refusal.the-variants.{StoreSize}
-use Rattle.plans.specs.Plans.{badSize}
+use Rattle.slots.specs.Slots.{slots, slot, tally, badSize}
+use Rattle.numbers.specs.declared.Refusal.the-variants.{StoreLength}
 use Rattle.checking.specs.declared.Checked.the-variants.{Fault, Refused}
 use Rattle.checking.specs.Check.{firstFault, counted, marked, counts, checkAnswer}
 use Rattle.answers.specs.Sheets.{checkNumber, clearOr, oldOr}
@@ -19,8 +18,8 @@ pub checks-pass : (s : List ℕ) → ChecksOut s → Passes s
 unfolding checkAnswer
 checks-pass s e = by-tests (badSize s) (ltb (firstFault s) (slots s)) (e .2 .0)
   where
-    by-tests : (x y : Bool) → 0 ≡ checkNumber (cond x (Refused StoreSize) (cond y (Fault (firstFault s)) (counts s)))
-        → cond x (Refused StoreSize) (cond y (Fault (firstFault s)) (counts s)) ≡ counts s
+    by-tests : (x y : Bool) → 0 ≡ checkNumber (cond x (Refused StoreLength) (cond y (Fault (firstFault s)) (counts s)))
+        → cond x (Refused StoreLength) (cond y (Fault (firstFault s)) (counts s)) ≡ counts s
     by-tests true y q = let z : ⊥ = omega arith in absurd z
     by-tests false true q = let z : ⊥ = omega arith in absurd z
     by-tests false false q = refl

@@ -142,6 +142,10 @@ abbrev pub hasNum : (ℕ → List ℕ) → ℕ → ℕ → Bool
 hasNum r n k = eqb (num (r k)) n
 
 module _ (c : ℕ) (r : ℕ → List ℕ) (n : ℕ) where
+  pub find-by : findBy c r n ≡ lowest (hasNum r n) c
+  unfolding findBy
+  find-by = refl
+
   pub find-start : findBy c r n ≡ scan (hasNum r n) 0 (c - 0)
   unfolding findBy
   find-start = sym (scan-start (hasNum r n) c)
