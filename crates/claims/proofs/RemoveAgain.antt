@@ -16,7 +16,7 @@ use Rattle.slots.proofs.FindLaws.{find-le, find-has}
 use Rattle.plans.specs.declared.Plan.{Plan}
 use Rattle.plans.specs.declared.Plan.the-variants.{Refuse, At}
 use Rattle.plans.specs.declared.Refusal.the-variants.{NoSheet}
-use Rattle.plans.specs.Plans.{badSize, absent, removePlan}
+use Rattle.plans.specs.Plans.{badSize, removePlan}
 use Rattle.plans.proofs.PlanLaws.{yes, no, passed, slotOf, there}
 use Rattle.store.specs.declared.Removed.the-variants.{Done, Refused}
 use Rattle.store.specs.Calls.{removeAnswer, removeStore}

@@ -13,10 +13,8 @@ use Rattle.plans.specs.declared.Refusal.{Refusal}
 use Rattle.plans.specs.declared.Refusal.the-variants as refusal
 use Rattle.plans.specs.Plans.{paper}
 use Rattle.store.specs.declared.Stored.the-variants.{Revision, Refused}
-use Rattle.store.specs.declared.Removed.the-variants as removed
 use Rattle.store.specs.Calls.{stepAnswer}
 use Rattle.answers.specs.Sheets.{stepNumber}
-use Rattle.claims.specs.Plain.{Place}
 use Rattle.claims.specs.View.{plain}
 use Rattle.claims.specs.Machine.{Event, removing, AllAllowed, Answer, ofRead, ofStored, ofRemoved, ofStep}
 use Rattle.claims.specs.Machine.{State, storeStep, answer, next, answers, final, listAnswers, listFinal}
