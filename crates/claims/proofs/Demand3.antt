@@ -39,7 +39,7 @@ module _ (o w : List ℕ) (ko : Key o) (kw : Key w) where
     pub holds-the-list : plain o w (final o w es st .store) ≡ listFinal es (plain o w (st .store))
     holds-the-list = same-list o w keys (ko .0) (kw .0) es st h whole .0
 
-    -- the store still passes the check, and has as many slots as before
+    -- the store still passes the check, has as many slots as before, and is still bytes
     pub still-passes : Passes (final o w es st .store)
     still-passes =
         good-passes (final o w es st .store) (same-list o w keys (ko .0) (kw .0) es st h whole .1)

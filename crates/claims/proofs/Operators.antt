@@ -2,11 +2,11 @@
 -- through every event but an accepted revision or removal of it.
 -- Assumes nothing.
 use mathlib.Core.Path.{_≡_, refl, sym, ap, _∙_, subst}
-use mathlib.Core.Bool.{Bool, true, false}
+use mathlib.Core.Bool.{false}
 use mathlib.Core.List.{List, [], _∷_, _++_}
 use Prim.Native.Nat.{ℕ, zero, suc, _+_, _≤_, _<_}
 use native.Mathlib.Omega.{arith}
-use borrow.Author.Tests.{eqb-true, eqb-false, ne-eqb, le-ltb}
+use borrow.Author.Tests.{ne-eqb, le-ltb}
 use lib.Dec.{eqb, ltb}
 use lib.ListN.{length, drop, set, length-set}
 use Rattle.block.specs.Bytes.{Bytes}
@@ -26,7 +26,7 @@ use Rattle.claims.specs.Machine.{Event, reading, adding, revising, remov
 use Rattle.claims.specs.Machine.{State, answers, final, listAnswer, listNext, listAnswers, listFinal}
 use Rattle.claims.specs.Claims.{Key, Passes, eventAt, answerAt}
 use Rattle.claims.specs.Operators.{asked, told, Written, by-add, by-revision, Changed, revised-anew, taken-out, Unchanged}
-use Rattle.claims.proofs.PlainLaws.{AddsAt, WorksAt, adds-at, revises-at, removes-at, in-has, in-lowest, at-set, at-other, found-as-before, found-there}
+use Rattle.claims.proofs.PlainLaws.{adds-at, revises-at, removes-at, in-has, in-lowest, at-set, at-other, found-as-before, found-there}
 use Rattle.claims.proofs.Demand3.{answers-as-a-list, holds-the-list}
 
 -- ---- steps change nothing

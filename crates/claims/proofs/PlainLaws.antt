@@ -1,7 +1,7 @@
 -- The plain list by itself: where a sheet is found, what a place written anew changes, and what a call that is accepted says of the list.
 -- Assumes nothing.
 use mathlib.Core.Path.{_≡_, refl, sym, ap, _∙_}
-use mathlib.Core.Bool.{Bool, true, false, not}
+use mathlib.Core.Bool.{Bool, true, false}
 use mathlib.Core.List.{List}
 use Prim.Native.Nat.{ℕ, _<_}
 use native.Mathlib.Omega.{arith}
@@ -13,7 +13,7 @@ use Rattle.slots.specs.Slots.{scan}
 use Rattle.slots.proofs.FindLaws.{lowest-le, lowest-has, lowest-below, lowest-is, scan-same}
 use Rattle.plans.specs.declared.Plan.the-variants.{At}
 use Rattle.plans.proofs.PlanLaws.{passed, same-slot}
-use Rattle.claims.specs.Plain.{Place, nothing, numberOf, revisionOf, at, findIn, absentIn, addIn, reviseIn, removeIn}
+use Rattle.claims.specs.Plain.{Place, nothing, numberOf, at, findIn, absentIn, addIn, reviseIn, removeIn}
 
 -- the test by which a place is found
 abbrev numbered : List Place → ℕ → ℕ → Bool

@@ -3,9 +3,9 @@
 -- as the plain list of the store in clear computes.
 -- Assumes nothing.
 use mathlib.Core.Path.{_≡_, refl, sym, ap, ap₂, _∙_, subst}
-use mathlib.Core.Bool.{Bool, true, false, cond}
+use mathlib.Core.Bool.{Bool, cond}
 use mathlib.Core.List.{List, [], _∷_}
-use Prim.Native.Nat.{ℕ, zero, suc, _≤_, _<_}
+use Prim.Native.Nat.{ℕ, zero, suc, _<_}
 use native.Mathlib.Omega.{arith}
 use borrow.Author.Tests.{ne-eqb}
 use lib.Dec.{lit<}
@@ -47,10 +47,10 @@ abbrev long : List ℕ
 long = replicate 64 255
 
 pub key-48 : Key short
-key-48 = (bytes-full 48, refl)
+key-48 = search (bytes-full 48)
 
 pub key-64 : Key long
-key-64 = (bytes-full 64, refl)
+key-64 = search (bytes-full 64)
 
 -- a store that does not pass the check (one that does is `TwoClear: twoClear`)
 pub one-byte-fails : Passes (0 ∷ []) → ⊥
@@ -68,19 +68,19 @@ abbrev shorter : List ℕ
 shorter = replicate 16 255
 
 pub read-allowed : Allowed (reading greatest text)
-read-allowed = (lit< tt, bytes-full textMost)
+read-allowed = search (bytes-full textMost, arith)
 
 pub add-allowed : Allowed (adding greatest text)
-add-allowed = (lit< tt, bytes-full textMost)
+add-allowed = search (bytes-full textMost, arith)
 
 pub revision-allowed : Allowed (revising greatest greatest text)
-revision-allowed = (lit< tt, lit< tt, bytes-full textMost)
+revision-allowed = search (bytes-full textMost, arith)
 
 pub removal-allowed : Allowed (removing greatest)
-removal-allowed = lit< tt
+removal-allowed = search arith
 
 pub step-allowed : Allowed (stepping greatest)
-step-allowed = tt
+step-allowed = search arith
 
 -- ---- one list of events
 

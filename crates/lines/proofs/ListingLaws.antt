@@ -12,7 +12,7 @@ use Rattle.records.specs.Record.{num, rev, mark, len}
 use Rattle.slots.specs.Slots.{slots, slot, badSize}
 use Rattle.numbers.specs.declared.Refusal.{Refusal}
 use Rattle.numbers.specs.declared.Refusal.the-variants.{StoreLength}
-use Rattle.plans.specs.Plans.{paper}
+use Rattle.numbers.specs.Numbers.{paper}
 use Rattle.checking.specs.declared.Checked.{Checked}
 use Rattle.checking.specs.declared.Checked.the-variants.{Fault, Refused}
 use Rattle.checking.specs.Check.{firstFault, counts, checkAnswer}

@@ -6,7 +6,7 @@ use Prim.Native.Nat.{ℕ}
 use lib.ListN.{replicate}
 use Rattle.block.specs.Rows.{row}
 use Rattle.records.specs.Record.{num, rev, mark, len, allZero, soundUsed, sound}
-use Rattle.slots.specs.Slots.{scan, tally, find, badSize}
+use Rattle.slots.specs.Slots.{scan, tally, findBy, badSize}
 use Rattle.checking.specs.Check.{faulty, firstFault, counted, checkAnswer}
 use Rattle.lines.specs.Decimal.{digits, decimal}
 use Rattle.lines.specs.Listing.{tooLong, refused, faultAt, usedWord, freeWord, clearWord, oldWord, newWord, field, named, line, slotLine, lines, countsLine, listing}
@@ -23,14 +23,14 @@ example : listing store ≡
     48 ∷ 32 ∷ 51 ∷ 48 ∷ 53 ∷ 32 ∷ 50 ∷ 32 ∷ 48 ∷ 32 ∷ 49 ∷ 54 ∷ 10
     ∷ 117 ∷ 115 ∷ 101 ∷ 100 ∷ 32 ∷ 49 ∷ 32 ∷ 102 ∷ 114 ∷ 101 ∷ 101 ∷ 32 ∷ 49 ∷ 32 ∷ 99 ∷ 108 ∷ 101 ∷ 97 ∷ 114 ∷ 32 ∷ 49 ∷ 32
     ∷ 111 ∷ 108 ∷ 100 ∷ 32 ∷ 48 ∷ 32 ∷ 110 ∷ 101 ∷ 119 ∷ 32 ∷ 48 ∷ 10 ∷ []
-unfolding store row num rev mark len allZero soundUsed sound scan tally find badSize faulty firstFault counted checkAnswer digits decimal usedWord freeWord clearWord oldWord newWord field named line slotLine lines countsLine listing
+unfolding store row num rev mark len allZero soundUsed sound scan tally findBy badSize faulty firstFault counted checkAnswer digits decimal usedWord freeWord clearWord oldWord newWord field named line slotLine lines countsLine listing
 example = refl
 
 -- an empty store: "used 0 free 0 clear 0 old 0 new 0"
 empty : listing [] ≡
     117 ∷ 115 ∷ 101 ∷ 100 ∷ 32 ∷ 48 ∷ 32 ∷ 102 ∷ 114 ∷ 101 ∷ 101 ∷ 32 ∷ 48 ∷ 32 ∷ 99 ∷ 108 ∷ 101 ∷ 97 ∷ 114 ∷ 32 ∷ 48 ∷ 32
     ∷ 111 ∷ 108 ∷ 100 ∷ 32 ∷ 48 ∷ 32 ∷ 110 ∷ 101 ∷ 119 ∷ 32 ∷ 48 ∷ 10 ∷ []
-unfolding row num rev mark len allZero soundUsed sound scan tally find badSize faulty firstFault counted checkAnswer digits decimal usedWord freeWord clearWord oldWord newWord field named line slotLine lines countsLine listing
+unfolding row num rev mark len allZero soundUsed sound scan tally findBy badSize faulty firstFault counted checkAnswer digits decimal usedWord freeWord clearWord oldWord newWord field named line slotLine lines countsLine listing
 empty = refl
 
 -- a ragged size: "refused 4"
@@ -40,12 +40,12 @@ ragged = refl
 
 -- after 01's two slots a free one with its last byte set: "fault at 2", and nothing of the slots before it
 fault : listing (store ++ replicate 2111 0 ++ (1 ∷ [])) ≡ 102 ∷ 97 ∷ 117 ∷ 108 ∷ 116 ∷ 32 ∷ 97 ∷ 116 ∷ 32 ∷ 50 ∷ 10 ∷ []
-unfolding store row num rev mark len allZero soundUsed sound scan find badSize faulty firstFault checkAnswer digits decimal faultAt field named listing
+unfolding store row num rev mark len allZero soundUsed sound scan findBy badSize faulty firstFault checkAnswer digits decimal faultAt field named listing
 fault = refl
 
 -- 31 slots, of which the first is unsound: "fault at 0"; and one byte more: "too long"
 most-slots : listing (1 ∷ replicate 65471 0) ≡ 102 ∷ 97 ∷ 117 ∷ 108 ∷ 116 ∷ 32 ∷ 97 ∷ 116 ∷ 32 ∷ 48 ∷ 10 ∷ []
-unfolding row num rev mark len allZero soundUsed sound scan find badSize faulty firstFault checkAnswer digits decimal faultAt field named listing
+unfolding row num rev mark len allZero soundUsed sound scan findBy badSize faulty firstFault checkAnswer digits decimal faultAt field named listing
 most-slots = refl
 
 long : listing (replicate 65473 0) ≡ 116 ∷ 111 ∷ 111 ∷ 32 ∷ 108 ∷ 111 ∷ 110 ∷ 103 ∷ 10 ∷ []

@@ -9,7 +9,7 @@ use lib.Dec.{ltb}
 use lib.ListN.{length}
 use Rattle.records.specs.Record.{recordSize, num, rev, mark, len}
 use Rattle.slots.specs.Slots.{slots, slot}
-use Rattle.plans.specs.Plans.{paper}
+use Rattle.numbers.specs.Numbers.{paper}
 use Rattle.checking.specs.declared.Checked.{Checked}
 use Rattle.checking.specs.declared.Checked.the-variants.{Counts, Fault, Refused}
 use Rattle.checking.specs.Check.{used, checkAnswer}

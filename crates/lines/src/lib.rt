@@ -4,7 +4,7 @@
 // Bytes laid into the buffer.
 mod laying;
 // Numbers in decimal.
-mod numbers;
+mod decimals;
 // A line for each used slot.
 mod table;
 
@@ -13,7 +13,8 @@ ghost use Rattle.lines.specs.Laid.{room, Laid};
 ghost use Rattle.lines.specs.Listing.{countsLine, Listed};
 use checking::Checked;
 use laying::text;
-use numbers::named;
+use decimals::named;
+use records::RECORD_SIZE;
 use table::used_lines;
 
 // 31 slots.

@@ -6,7 +6,7 @@ ghost use Rattle.records.specs.Record.{recordSize};
 ghost use Rattle.slots.specs.Slots.{slots};
 ghost use Rattle.lines.specs.Laid.{room, Laid};
 ghost use Rattle.lines.specs.Listing.{line, slotLine, lines};
-use super::numbers::field;
+use super::decimals::field;
 
 // The lines of all slots.
 pub fn used_lines(out: &mut [u8], store: &[u8]) -> usize
@@ -23,17 +23,16 @@ pub fn used_lines(out: &mut [u8], store: &[u8]) -> usize
     at
 }
 
-// The line of slot k, and nothing where it is free.
+// The line of slot k, and nothing if it is free.
 fn slot_line(out: &mut [u8], at: usize, store: &[u8], k: usize) -> usize
     requires { ⌜ (at + 105 ≤ room) × (k < slots (now store)) ⌝ }
     ensures { λ n. ⌜ (Laid (slotLine (now (store .entry)) k) at (now (out .entry)) n (now (out .exit))) × (n ≤ at + 105) ⌝ }
 {
-    let from = k * RECORD_SIZE;
-    let end = from + RECORD_SIZE;
-    if records::number(&store[from..end]) == 0 {
+    let r = slots::record_at(store, k);
+    if records::number(r) == 0 {
         return at;
     }
-    line(out, at, k, &store[from..end])
+    line(out, at, k, r)
 }
 
 // Slot, sheet, revision, mark, length.

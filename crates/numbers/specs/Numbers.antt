@@ -2,7 +2,8 @@
 -- Assumes nothing.
 use mathlib.Core.Path.{_≡_, refl, sym, ap, _∙_}
 use mathlib.Core.List.{List, [], _∷_}
-use Prim.Native.Nat.{ℕ, zero, suc}
+use Prim.Native.Nat.{ℕ, zero, suc, _≤_}
+use native.Mathlib.Omega.{arith}
 use lib.ListN.{getD}
 use Rattle.numbers.specs.declared.Refusal.{Refusal}
 use Rattle.numbers.specs.declared.Refusal.the-variants.{KeyLength, MessageLength, DataLength, StoreLength, SheetZero, TextLength, NoSheet}
@@ -76,3 +77,20 @@ back (Refused LengthChanged) = refl
 -- two answers with one number are equal
 pub paper-apart : (a b : Answer) → answerPaper a ≡ answerPaper b → a ≡ b
 paper-apart a b e = sym (back a) ∙ ap answerOf e ∙ back b
+
+-- no refusal has the number of a call that was not refused
+pub some-number : (x : Refusal) → 1 ≤ paper x
+some-number KeyLength = omega arith
+some-number MessageLength = omega arith
+some-number DataLength = omega arith
+some-number StoreLength = omega arith
+some-number SheetZero = omega arith
+some-number TextLength = omega arith
+some-number NoSheet = omega arith
+some-number OtherRevision = omega arith
+some-number LastRevision = omega arith
+some-number NoFreeSlot = omega arith
+some-number SheetPresent = omega arith
+some-number SlotUnsound = omega arith
+some-number BufferLength = omega arith
+some-number LengthChanged = omega arith

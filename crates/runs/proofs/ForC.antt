@@ -7,16 +7,12 @@ use Prim.Native.Nat.{ℕ, zero, suc, _≤_, _<_}
 use native.Mathlib.Omega.{arith}
 use lib.ListN.{List·getD-map}
 use Rattle.block.specs.Bytes.{Bytes}
+use Rattle.numbers.specs.Numbers.{paper, some-number}
 use Rattle.slots.specs.Slots.{slots}
 use Rattle.plans.specs.declared.Plan.{Plan}
-use Rattle.numbers.specs.declared.Refusal.{Refusal}
-use Rattle.numbers.specs.declared.Refusal.the-variants as refusal
-use Rattle.plans.specs.Plans.{paper}
 use Rattle.store.specs.declared.Stored.the-variants.{Revision, Refused}
-use Rattle.store.specs.declared.Removed.the-variants as removed
 use Rattle.store.specs.Calls.{stepAnswer}
 use Rattle.answers.specs.Sheets.{stepNumber}
-use Rattle.claims.specs.Plain.{Place}
 use Rattle.claims.specs.View.{plain}
 use Rattle.claims.specs.Machine.{Event, removing, AllAllowed, Answer, ofRead, ofStored, ofRemoved, ofStep}
 use Rattle.claims.specs.Machine.{State, storeStep, answer, next, answers, final, listAnswers, listFinal}
@@ -28,23 +24,6 @@ use Rattle.runs.specs.Calls.{callAt, returnedAt, event, events, told, as
 use Rattle.runs.specs.Runs.{Run, Six, Checks, ChecksOut}
 use Rattle.runs.proofs.OneRun.{given, givens, run-is}
 use Rattle.runs.proofs.TheCheck.{checks-pass, passes-checks, none-left-counted}
-
--- no refusal has the number 0
-some-number : (x : Refusal) → 1 ≤ paper x
-some-number refusal.KeyLength = omega arith
-some-number refusal.MessageLength = omega arith
-some-number refusal.DataLength = omega arith
-some-number refusal.StoreLength = omega arith
-some-number refusal.SheetZero = omega arith
-some-number refusal.TextLength = omega arith
-some-number refusal.NoSheet = omega arith
-some-number refusal.OtherRevision = omega arith
-some-number refusal.LastRevision = omega arith
-some-number refusal.NoFreeSlot = omega arith
-some-number refusal.SheetPresent = omega arith
-some-number refusal.Unsound = omega arith
-some-number refusal.BufferLength = omega arith
-some-number refusal.LengthChanged = omega arith
 
 -- ---- from what a call gave back to the answer, and to the call from its event
 

@@ -6,8 +6,7 @@ use mathlib.Core.List.{List, [], _∷_}
 use Prim.Native.Nat.{ℕ}
 use lib.ListN.{length}
 use Rattle.plans.specs.Plans.{readPlan, addPlan, revisePlan, removePlan, stepPlan}
-use Rattle.store.specs.Calls.{readAnswer, readBuffer, addAnswer, addStore, reviseAnswer, reviseStore, removeAnswer, removeStore}
-use Rattle.store.specs.Calls.{stepAnswer, placeAfter, stepStore}
+use Rattle.store.specs.Calls.{readAnswer, readBuffer, addAnswer, reviseAnswer, removeAnswer, stepAnswer}
 use Rattle.answers.specs.Sheets.{readNumber, lengthOr, seenOr, storedNumber, revisionOr, removedNumber, stepNumber, outcomeOr}
 use Rattle.claims.specs.Machine.{Event, State, moved, next, final}
 use Rattle.runs.specs.Calls.{Call, reads, adds, revises, removes, steps, jobSteps, Returned, text, revision, freed, outcome, event, events}

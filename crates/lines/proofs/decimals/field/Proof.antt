@@ -1,12 +1,12 @@
--- `lines::numbers::field` meets its contract: the digits, and the byte after them.
+-- `lines::decimals::field` meets its contract: the digits, and the byte after them.
 -- Assumes nothing.
 use native.Mathlib.Omega.{arith}
 use Rattle.lines.specs.Listing.{field as fieldOf}
 use borrow.Author.Needs.{needs}
 use Rattle.lines.proofs.LaidLaws.{laid-then}
 use Rattle.lines.proofs.DecimalLaws.{length-word}
-use Rattle.lines.proofs.numbers.field.Statement.{statement}
-use Rattle.lines.proofs.numbers.field.Tie as tie
+use Rattle.lines.proofs.decimals.field.Statement.{statement}
+use Rattle.lines.proofs.decimals.field.Tie as tie
 
 number-requires : tie.Need-number-requires
 number-requires c κs = search needs

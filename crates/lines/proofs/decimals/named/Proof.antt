@@ -1,11 +1,11 @@
--- `lines::numbers::named` meets its contract: the word, the number and the byte after it.
+-- `lines::decimals::named` meets its contract: the word, the number and the byte after it.
 -- Assumes nothing.
 use native.Mathlib.Omega.{arith}
 use Rattle.lines.specs.Listing.{named as namedOf}
 use borrow.Author.Needs.{needs}
 use Rattle.lines.proofs.LaidLaws.{laid-then}
-use Rattle.lines.proofs.numbers.named.Statement.{statement}
-use Rattle.lines.proofs.numbers.named.Tie as tie
+use Rattle.lines.proofs.decimals.named.Statement.{statement}
+use Rattle.lines.proofs.decimals.named.Tie as tie
 
 text-requires : tie.Need-text-requires
 text-requires c κs = search needs

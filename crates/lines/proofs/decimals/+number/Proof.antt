@@ -1,4 +1,4 @@
--- `lines::numbers::number` meets its contract: a digit by itself, or the digits before the last one and then the last. The measure is the number.
+-- `lines::decimals::number` meets its contract: a digit by itself, or the digits before the last one and then the last. The measure is the number.
 -- Assumes nothing.
 use mathlib.Core.Path.{sym, _∙_}
 use Prim.Native.Nat.{ℕ, _≤_, _<_}
@@ -7,12 +7,12 @@ use Rattle.lines.proofs.LaidLaws.{laid-then, laid-as}
 use Rattle.lines.proofs.DecimalLaws.{decimal-small, decimal-large, length-large, length-word}
 use borrow.Fn.Kinds.{In}
 use borrow.Fn.PlainCycle.{Measures, is, falls, and}
-use Rattle.lines.proofs.numbers.number.Reads as number
-use Rattle.lines.proofs.numbers.number.Kinds as number-kinds
-use Rattle.lines.proofs.numbers.+number.Lts-number as number-lts
+use Rattle.lines.proofs.decimals.number.Reads as number
+use Rattle.lines.proofs.decimals.number.Kinds as number-kinds
+use Rattle.lines.proofs.decimals.+number.Lts-number as number-lts
 use Rattle.lines.proofs.laying.put.Reads as put-reads
-use Rattle.lines.proofs.numbers.+number.{statement}
-use Rattle.lines.proofs.numbers.+number.Tie.{close}
+use Rattle.lines.proofs.decimals.+number.{statement}
+use Rattle.lines.proofs.decimals.+number.Tie.{close}
 
 abbrev μ-number : Measures 1 number-kinds.ps ℕ
 μ-number κs a = a .1 .1 .0
