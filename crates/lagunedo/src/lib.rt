@@ -5,17 +5,17 @@ ghost use Rattle.lagunedo.specs.Calls.{AesCalled, Eme2Called};
 // The step over a job that is lent.
 mod job;
 // The store's calls.
-mod sheets;
+mod store_calls;
 
 pub use job::Job;
 pub use job::lagunedo_job_step;
 use numbers::answer_number;
-pub use sheets::lagunedo_add;
-pub use sheets::lagunedo_check;
-pub use sheets::lagunedo_read;
-pub use sheets::lagunedo_remove;
-pub use sheets::lagunedo_revise;
-pub use sheets::lagunedo_step;
+pub use store_calls::lagunedo_add;
+pub use store_calls::lagunedo_check;
+pub use store_calls::lagunedo_read;
+pub use store_calls::lagunedo_remove;
+pub use store_calls::lagunedo_revise;
+pub use store_calls::lagunedo_step;
 
 // Overwrites the block with its encipherment under the key; 1, 2.
 #[no_mangle]

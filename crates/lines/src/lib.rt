@@ -12,8 +12,8 @@ ghost use Prim.Native.Nat.{_+_, _≤_};
 ghost use Rattle.lines.specs.Laid.{room, Laid};
 ghost use Rattle.lines.specs.Listing.{countsLine, Listed};
 use checking::Checked;
-use laying::text;
 use decimals::named;
+use laying::text;
 use records::RECORD_SIZE;
 use table::used_lines;
 
