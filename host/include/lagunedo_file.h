@@ -3,7 +3,8 @@
  *
  * The calls of lagunedo.h work on lent memory; this is the file side. The
  * desk keeps every store by these calls, and a server links them as
- * liblagunedo_file.a (pkg-config lagunedo_file). It needs Linux and C99.
+ * liblagunedo_file.a, which pkg-config lagunedo names too. They need Linux,
+ * and C99 or C++11.
  *
  *
  * The protocol
