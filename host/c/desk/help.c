@@ -95,14 +95,24 @@ static void help_of_all(void)
         printf("  %s %s\n", own_name(), manual_examples[i]);
 }
 
+/* What has to be given is named; a pair of keys may stand for the one. */
+static void show_usage(const struct command *command)
+{
+    int takes = command->takes;
+
+    printf("usage: %s %s%s%s%s\n\n", own_name(), help_usage(command),
+           (takes & (TAKES_KEYS | TAKES_ONE_KEY)) != 0 ? " --key FILE" : "",
+           (takes & TAKES_SEEN) != 0 ? " --seen FINGERPRINT" : "",
+           takes != 0 ? " [OPTIONS]" : "");
+}
+
 void help_print(const struct command *command)
 {
     if (command == NULL) {
         help_of_all();
         return;
     }
-    printf("usage: %s %s%s\n\n", own_name(), help_usage(command),
-           command->takes == 0 ? "" : " [OPTIONS]");
+    show_usage(command);
     page_paragraph(2, command->summary);
     putchar('\n');
     page_paragraph(0, command->details);

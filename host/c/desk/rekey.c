@@ -135,11 +135,11 @@ static void tell_already(const struct desk *desk, const struct rekeying *all)
         return;
     complain("sheets found marked new key, and left as they were: %u",
              (unsigned)already);
-    complain("if this changeover was under way, they are under the new key");
-    complain("if none was, they are under the key that they were written "
-             "with:");
-    complain("keep that key, and give begin before rekey (%s rekey --help)",
-             own_name());
+    complain("each is under the key that it was last written with");
+    complain("if this rekeying was under way, with both keys given, that is "
+             "the new key");
+    complain("if none was under way, it is another key: keep that, and give "
+             "begin first");
 }
 
 static int any_converted(const struct rekeying *all)

@@ -22,9 +22,9 @@ counts one "used 4 free 1 clear 0 old 0 new 4"
 # What was found under the new key is said in words, if there are two keys; by one copy or by several it is the same.
 found_already() { # NUMBER
     says "desk: sheets found marked new key, and left as they were: $1"
-    says "desk: if this changeover was under way, they are under the new key"
-    says "desk: if none was, they are under the key that they were written with:"
-    says "desk: keep that key, and give begin before rekey (desk rekey --help)"
+    says "desk: each is under the key that it was last written with"
+    says "desk: if this rekeying was under way, with both keys given, that is the new key"
+    says "desk: if none was under way, it is another key: keep that, and give begin first"
 }
 silent_about_it() {
     check "nothing is said of sheets found marked new key" [ "$(grep -c 'new key' err)" = 0 ]
