@@ -61,4 +61,4 @@ $(HOST_OUT)/server-stops: $(SERVER_STOPS_FILES) $(FILE_HEADERS) $(HOST_HEADER) $
 # The library's calls, one by one.
 $(HOST_OUT)/file_calls: host/c/file/test/calls.c $(FILE_HEADER) $(FILE_LIBRARY)
 	@mkdir -p $(HOST_OUT)
-	$(CC) $(DESK_CFLAGS) -o $@ $< $(FILE_LIBRARY)
+	$(CC) $(DESK_CFLAGS) -Wl,--wrap=fsync,--wrap=renameat -o $@ $< $(FILE_LIBRARY)

@@ -1,6 +1,8 @@
 /*
  * The calls of lagunedo_file.h, one by one, in an empty directory that is the
- * working directory: what each answers, and what stands in it afterwards.
+ * working directory: what each answers, and what stands in it afterwards. It
+ * is linked so that every flush and rename goes through this file (ld's
+ * --wrap): their order is looked at, and each is made to fail.
  */
 
 #include <errno.h>
@@ -31,6 +33,49 @@ static int check(int holds, const char *what)
         if (!check(holds, #holds)) \
             return 0;              \
     while (0)
+
+/* What happened: f a file flushed, d a directory flushed, r a rename. */
+static char happened[32];
+static size_t happenings;
+static size_t fails_at; /* the first is 1; 0 for none */
+static int fails_with;
+
+static int happens(char what)
+{
+    happened[happenings++ % (sizeof happened - 1)] = what;
+    if (happenings != fails_at)
+        return 1;
+    errno = fails_with;
+    return 0;
+}
+
+static void from_now(size_t at, int with)
+{
+    memset(happened, 0, sizeof happened);
+    happenings = 0;
+    fails_at = at;
+    fails_with = with;
+}
+
+int __real_fsync(int file);
+int __real_renameat(int from, const char *old, int to, const char *new);
+int __wrap_fsync(int file);
+int __wrap_renameat(int from, const char *old, int to, const char *new);
+
+int __wrap_fsync(int file)
+{
+    struct stat seen;
+
+    if (fstat(file, &seen) != 0)
+        return -1;
+    return happens(S_ISDIR(seen.st_mode) ? 'd' : 'f') ? __real_fsync(file)
+                                                      : -1;
+}
+
+int __wrap_renameat(int from, const char *old, int to, const char *new)
+{
+    return happens('r') ? __real_renameat(from, old, to, new) : -1;
+}
 
 static const uint8_t monday[] = "the store of Monday";
 static const uint8_t tuesday[] = "Tuesday's";
@@ -224,10 +269,64 @@ static int copies_or_not(void)
     return 1;
 }
 
+/* The copy is on disk, with its name, before the store is replaced. */
+static int in_order(struct lagunedo_file *file)
+{
+    from_now(0, 0);
+    CHECK(lagunedo_file_keep(file) == LAGUNEDO_FILE_DONE);
+    CHECK(lagunedo_file_replace(file, tuesday, sizeof tuesday) ==
+          LAGUNEDO_FILE_DONE);
+    CHECK(strcmp(happened, "frdfrd") == 0);
+    from_now(3, EINVAL); /* a directory that cannot be flushed at all */
+    CHECK(lagunedo_file_replace(file, monday, sizeof monday) ==
+          LAGUNEDO_FILE_DONE);
+    return 1;
+}
+
+/* Up to the rename the old store stands, and after it the new one. */
+static int fails_soundly(struct lagunedo_file *file, size_t at)
+{
+    from_now(at, EIO);
+    CHECK(lagunedo_file_keep(file) == LAGUNEDO_FILE_TROUBLE && errno == EIO);
+    CHECK(holds("store", monday, sizeof monday) && absent("store.desk-new"));
+    CHECK(at < 3 ? holds("store.desk-before", tuesday, sizeof tuesday)
+                 : holds("store.desk-before", monday, sizeof monday));
+    from_now(at, EIO);
+    CHECK(lagunedo_file_replace(file, tuesday, sizeof tuesday) ==
+          (at < 3 ? LAGUNEDO_FILE_TROUBLE : LAGUNEDO_FILE_UNCONFIRMED));
+    CHECK(errno == EIO && absent("store.desk-new"));
+    CHECK(at < 3 ? holds("store", monday, sizeof monday)
+                 : holds("store", tuesday, sizeof tuesday));
+    return 1;
+}
+
+static int flushes(void)
+{
+    struct lagunedo_file file;
+    size_t at;
+
+    CHECK(lagunedo_file_place(&file, "store", LAGUNEDO_FILE_TO_CHANGE) ==
+          LAGUNEDO_FILE_DONE);
+    CHECK(lagunedo_file_lock(&file, 0) == LAGUNEDO_FILE_DONE);
+    if (!in_order(&file))
+        return 0;
+    CHECK(lagunedo_file_replace(&file, tuesday, sizeof tuesday) ==
+          LAGUNEDO_FILE_DONE);
+    CHECK(lagunedo_file_keep(&file) == LAGUNEDO_FILE_DONE);
+    CHECK(lagunedo_file_replace(&file, monday, sizeof monday) ==
+          LAGUNEDO_FILE_DONE);
+    for (at = 1; at <= 3; at++)
+        if (!fails_soundly(&file, at))
+            return 0;
+    from_now(0, 0);
+    lagunedo_file_leave(&file);
+    return 1;
+}
+
 int main(void)
 {
     if (!makes() || !loads() || !makes() || !locks() || !keeps() ||
-        !refuses() || !copies_or_not())
+        !refuses() || !copies_or_not() || !flushes())
         return 1;
     printf("file: %d checks passed\n", checks);
     return 0;
