@@ -4,8 +4,9 @@
  * A run is: read the command line (desk/request.c, by the tables in
  * desk/command.c and desk/option.c), gather keys and text (desk/input.c), lock
  * and load the store (desk/store_file.c), and make the command's call
- * (desk/survey.c, desk/sheets.c, desk/begin.c, desk/rekey.c). All input is read
- * before the lock is taken, so that nobody waits for an operator who types.
+ * (desk/survey.c, desk/sheets.c, desk/begin.c, desk/rekey.c). All input is
+ * read before the lock is taken, so that nobody waits for an operator who
+ * types.
  */
 
 #include <fcntl.h>

@@ -26,7 +26,8 @@
  *    has the old or the new one whole.
  * 3. Load the whole store after the lock was taken. Bytes loaded before it
  *    may be another's by now.
- * 4. Make one call of lagunedo.h on them. If it is refused, go to 7.
+ * 4. Make one call of lagunedo.h on them, or for rekeying all steps of the
+ *    job. If it is refused, or changed nothing, go to 7.
  * 5. If the change cannot be undone by another call, as rekeying, keep the
  *    old store first: its bytes are written to STORE.desk-new, flushed and
  *    renamed to STORE.desk-before, and the directory is flushed.
@@ -43,8 +44,10 @@
  * STORE is the old one, STORE.desk-before is what it was or the same bytes as
  * STORE, and the same change, made again, keeps them again. A change that is
  * refused, or finds nothing to do, does neither 5 nor 6: so a command that is
- * given again after it had worked does not touch the copy. A server that
- * rekeys by one replacement a step does 5 before the first step alone.
+ * given again after it had worked does not touch the copy. That is why the
+ * desk rekeys by all steps on the bytes that it loaded and one replacement:
+ * with one a step, a job that is started again would keep a store that is
+ * half converted, perhaps under a wrong key.
  *
  * The answer of a change may be lost after 6. What its call gets when it is
  * made again is said in lagunedo.h, under "Made again".

@@ -124,5 +124,5 @@ void man_print(void)
     show_statuses();
     show_examples();
     title("see also");
-    printf(".BR lagunedo\\-listing (1)\n");
+    printf(".BR lagunedo\\-listing (1),\n.BR lagunedo (3)\n");
 }

@@ -153,8 +153,9 @@ static int take_keys(struct request *request, const struct words *words)
 
     if ((takes & TAKES_ONE_KEY) != 0 && one == NULL)
         return wrong("--key goes with ", request->command->name);
-    if ((takes & TAKES_KEYS) != 0 && (one != NULL ? old != NULL || new != NULL
-                                                  : old == NULL || new == NULL))
+    if ((takes & TAKES_KEYS) != 0 &&
+        (one != NULL ? old != NULL || new != NULL
+                     : old == NULL || new == NULL))
         return wrong("either --key, or --old-key and --new-key, go with ",
                      request->command->name);
     request->old_key = one != NULL ? one : old;

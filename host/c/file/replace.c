@@ -84,7 +84,7 @@ static int write_beside(const struct lagunedo_file *file,
     return -1;
 }
 
-/* The contents under this name, in the place of what had it; all or nothing. */
+/* The contents under this name, in the place of what had it, or nothing. */
 static enum lagunedo_file_answer put(struct lagunedo_file *file,
                                      const struct contents *contents,
                                      const char *name)

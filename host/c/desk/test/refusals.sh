@@ -19,12 +19,15 @@ says "; it has 65 bytes or more"
 # Which file, and which length: either key, and the newline that an editor leaves.
 { cat old.key; echo; } >newline.key
 refuses 1 read refusing 305 --old-key newline.key --new-key new.key
-says "desk: newline.key: refused with 1: a key is not 48 or 64 bytes long; it has 49 bytes, the last a newline"
+says "desk: newline.key: refused with 1: a key is not 48 or 64 bytes long"
+says "; it has 49 bytes, the last a newline"
 refuses 1 read refusing 305 --old-key old.key --new-key newline.key
-says "desk: newline.key: refused with 1: a key is not 48 or 64 bytes long; it has 49 bytes, the last a newline"
+says "desk: newline.key: refused with 1: a key is not 48 or 64 bytes long"
+says "; it has 49 bytes, the last a newline"
 bytes 63 >short.key
 refuses 1 read refusing 305 --key short.key
-says "desk: short.key: refused with 1: a key is not 48 or 64 bytes long; it has 63 bytes"
+says "desk: short.key: refused with 1: a key is not 48 or 64 bytes long"
+says "; it has 63 bytes"
 
 # 4: a byte too few, a byte too many, a record too many.
 cat refusing free >whole3

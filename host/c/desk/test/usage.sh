@@ -75,8 +75,6 @@ for name in $names; do check "the man page tells of $name" grep -q "^\.B $name S
 for option in key seen wait copies raw version; do check "the man page tells of --$option" grep -q "^\.B .*\\\\-\\\\-$option" page; done
 for status in 0 14 100 108; do check "the man page tells of status $status" grep -qx "\.B $status" page; done
 if command -v groff >/dev/null 2>&1; then
-    for file in page "$here/../man/lagunedo-listing.1.in"; do
-        groff -man -Tascii -ww -z "$file" >groffed 2>&1
-        check "groff takes $file ($(cat groffed))" [ ! -s groffed ]
-    done
+    groff -man -Tascii -ww -z page >groffed 2>&1
+    check "groff takes the page ($(cat groffed))" [ ! -s groffed ]
 fi
