@@ -61,6 +61,8 @@ desk=$prefix/bin/lagunedo-desk
 check "the server is built" $CC $(flags --cflags) -o "$work/server" "$here/c/server.c" $(flags --libs)
 printf '%064d' 4711 >"$work/key"
 check "the desk makes a store" "$desk" new "$work/store" 2 >"$work/out"
+LD_LIBRARY_PATH="$prefix/lib"
+export LD_LIBRARY_PATH
 check "the server adds a sheet" "$work/server" "$work/store" "$work/key" 305 'PRESS 4 HOLD 5AM' >"$work/out"
 check "the server tells it" [ "$(cat "$work/out")" = "added 305 at revision 1" ]
 check "the desk reads it" [ "$("$desk" read "$work/store" 305 --key "$work/key" 2>"$work/err")" = 'PRESS 4 HOLD 5AM' ]

@@ -33,7 +33,7 @@ int store_open(struct store_file *store, const char *path,
  */
 int store_replace(struct store_file *store);
 
-/* The same, after the old store was kept as STORE.desk-before; that is told. */
+/* The same, after the old store was kept as STORE.desk-before, with word. */
 int store_replace_and_keep(struct store_file *store);
 
 void store_close(struct store_file *store);
