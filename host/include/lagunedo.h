@@ -45,7 +45,8 @@
  * lagunedo_check finds is faults of layout.
  *
  * A call is whole. What a store holds after a call that was cut off half way,
- * as by a loss of power, is not said.
+ * as by a loss of power, is not said. lagunedo_file.h replaces a store file
+ * whole for that reason.
  *
  * The time a call takes is not claimed to be independent of its input: AES
  * reads tables at places that depend on the key and on the data.

@@ -1,8 +1,8 @@
 /*
  * A text may hold any bytes, and at a terminal some of them are commands to
- * it. There a newline and whatever the locale calls printable are shown, any
- * other byte as \x and two hex digits, and \ as \\, so that nothing shown
- * stands for two texts.
+ * it. There newlines, tabs and whatever the locale calls printable are shown,
+ * any other byte as \x and two hex digits, and \ as \\, so that no text is
+ * taken for an escape.
  */
 
 #include <locale.h>
@@ -29,7 +29,8 @@ static size_t printable(const char *text, size_t length)
     size = mbrtowc(&wide, text, length, &state);
     if (size == 0 || size > length)
         return 0;
-    return wide == L'\n' || iswprint((wint_t)wide) ? size : 0;
+    return wide == L'\n' || wide == L'\t' || iswprint((wint_t)wide) ? size
+                                                                  : 0;
 }
 
 /* One character or one byte; gives how many bytes it was. */

@@ -20,8 +20,8 @@ if script -qec true /dev/null </dev/null >/dev/null 2>&1; then
     gives 0 new odd.store 1
     gives 0 add odd.store 7 $keys <odd
     at_terminal /dev/null read odd.store 7 $keys
-    check "what cannot be shown is escaped" grep -qxF 'TAB\x09BELL\x07 BACK\\ESC\x1b[31m\xc3\xa4\xff LAST' seen
-    check "it is said how many bytes" grep -q 'bytes that cannot be shown, .*: 6; --raw' seen
+    check "what cannot be shown is escaped" grep -qxF "$(printf 'TAB\t')"'BELL\x07 BACK\\ESC\x1b[31m\xc3\xa4\xff LAST' seen
+    check "it is said how many bytes" grep -q 'bytes that cannot be shown, .*: 5; --raw' seen
     at_terminal /dev/null read odd.store 7 $keys --raw
     sed 1d seen >shown.raw
     check "--raw prints every byte" cmp -s odd shown.raw
