@@ -65,7 +65,9 @@ const struct command commands[COMMANDS] = {
       "first, and keep the old key. Damaged slots are named and kept. "
       "Refusals, in this order: 1, 4. Where a sheet was converted, the store "
       "as it was is kept as STORE.desk-before; where none was, both files "
-      "are left alone." }
+      "are left alone. Given again after it had worked, it converts none. "
+      "Given again after the next begin, its old key is a wrong one, which "
+      "no program can tell: the copy is for that." }
 };
 
 const struct command *command_named(const char *name)
