@@ -14,10 +14,10 @@ LAGUNEDO_VERSION := 0.1.0
 INSTALL_TO = $(DESTDIR)$(PREFIX)
 
 # The name desk alone is too common for a directory shared with others.
-install: $(HOST_HEADER) $(HOST_LIBRARY) $(HOST_OUT)/desk $(LAGUNEDO_LISTING)
+install: $(HOST_HEADER) $(FILE_HEADER) $(HOST_LIBRARY) $(FILE_LIBRARY) $(HOST_OUT)/desk $(LAGUNEDO_LISTING)
 	install -d $(INSTALL_TO)/include $(INSTALL_TO)/lib/pkgconfig $(INSTALL_TO)/bin
-	install -m 644 $(HOST_HEADER) $(INSTALL_TO)/include/lagunedo.h
-	install -m 644 $(HOST_LIBRARY) $(INSTALL_TO)/lib/liblagunedo.a
+	install -m 644 $(HOST_HEADER) $(FILE_HEADER) $(INSTALL_TO)/include
+	install -m 644 $(HOST_LIBRARY) $(FILE_LIBRARY) $(INSTALL_TO)/lib
 	sed -e 's|@PREFIX@|$(PREFIX)|' -e 's|@VERSION@|$(LAGUNEDO_VERSION)|' host/lagunedo.pc.in >$(HOST_OUT)/lagunedo.pc
 	install -m 644 $(HOST_OUT)/lagunedo.pc $(INSTALL_TO)/lib/pkgconfig/lagunedo.pc
 	install -m 755 $(HOST_OUT)/desk $(INSTALL_TO)/bin/lagunedo-desk

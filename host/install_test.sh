@@ -13,7 +13,9 @@ trap 'rm -rf "$work"' EXIT
 installed="bin/lagunedo-desk
 bin/lagunedo-listing
 include/lagunedo.h
+include/lagunedo_file.h
 lib/liblagunedo.a
+lib/liblagunedo_file.a
 lib/pkgconfig/lagunedo.pc"
 
 files_below() { # DIRECTORY
@@ -53,4 +55,17 @@ check "the header is compiled as C++" $CXX $(flags --cflags) -c -o "$work/header
 "$prefix/bin/lagunedo-desk" --help >"$work/help"
 check "the desk runs by its installed name" grep -q '^usage: lagunedo-desk COMMAND STORE' "$work/help"
 check "the listing runs" [ "$("$prefix/bin/lagunedo-listing" </dev/null)" = "used 0 free 0 clear 0 old 0 new 0" ]
+
+# A job server over the file library shares a store with the installed desk; its header is C++ too.
+desk=$prefix/bin/lagunedo-desk
+check "the server is built" $CC $(flags --cflags) -o "$work/server" "$here/c/server.c" $(flags --libs)
+printf '%064d' 4711 >"$work/key"
+check "the desk makes a store" "$desk" new "$work/store" 2 >"$work/out"
+LD_LIBRARY_PATH="$prefix/lib"
+export LD_LIBRARY_PATH
+check "the server adds a sheet" "$work/server" "$work/store" "$work/key" 305 'PRESS 4 HOLD 5AM' >"$work/out"
+check "the server tells it" [ "$(cat "$work/out")" = "added 305 at revision 1" ]
+check "the desk reads it" [ "$("$desk" read "$work/store" 305 --key "$work/key" 2>"$work/err")" = 'PRESS 4 HOLD 5AM' ]
+echo '#include "lagunedo_file.h"' >"$work/file.cpp"
+check "the file library's header is compiled as C++" $CXX $(flags --cflags) -c -o "$work/file.o" "$work/file.cpp"
 all_passed install

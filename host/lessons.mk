@@ -10,11 +10,11 @@ host-lessons: host-eme2 $(HOST_OUT)/desk lesson-program
 host-eme2: $(HOST_OUT)/eme2
 	host/c/eme2_test.sh $(abspath $< vectors/eme2/own-second-implementation.txt $(HOST_OUT))
 
-EME2_FILES := host/c/eme2.c $(patsubst %,host/c/desk/%.c,input say status)
+EME2_FILES := host/c/eme2.c $(DESK_COMMON)
 
-$(HOST_OUT)/eme2: $(EME2_FILES) $(DESK_HEADERS) $(HOST_LIBRARY)
+$(HOST_OUT)/eme2: $(EME2_FILES) $(DESK_HEADERS) $(FILE_LIBRARY) $(HOST_LIBRARY)
 	@mkdir -p $(HOST_OUT)
-	$(CC) $(DESK_CFLAGS) -o $@ $(EME2_FILES) $(HOST_LIBRARY)
+	$(CC) $(DESK_CFLAGS) -o $@ $(EME2_FILES) $(FILE_LIBRARY) $(HOST_LIBRARY)
 
 # Whether it has to be built anew is for cargo to see.
 lesson-program:

@@ -1,11 +1,12 @@
 /*
  * desk: the sheets of a store file, at a terminal. --help is its manual.
  *
- * A run is: read the command line (desk/request.c, by the table in
- * desk/command.c), gather keys and text (desk/input.c), lock and load the
- * store (desk/store_file.c), and make the command's call (desk/survey.c,
- * desk/sheets.c, desk/rekey.c). All input is read before the lock is taken,
- * so that nobody waits for an operator who types.
+ * A run is: read the command line (desk/request.c, by the tables in
+ * desk/command.c and desk/option.c), gather keys and text (desk/input.c), lock
+ * and load the store (desk/store_file.c), and make the command's call
+ * (desk/survey.c, desk/sheets.c, desk/begin.c, desk/rekey.c). All input is
+ * read before the lock is taken, so that nobody waits for an operator who
+ * types.
  */
 
 #include <fcntl.h>
@@ -15,8 +16,10 @@
 
 #include "desk/command.h"
 #include "desk/help.h"
+#include "desk/man.h"
 #include "desk/say.h"
 #include "desk/status.h"
+#include "desk/version.h"
 
 /*
  * Were one of the three standard streams closed, the next file opened would
@@ -49,18 +52,35 @@ static int serve(struct desk *desk)
     const struct command *command = request->command;
     int status = DESK_DONE;
 
-    if ((command->takes & TAKES_KEYS) != 0)
+    if ((command->takes & (TAKES_KEYS | TAKES_ONE_KEY)) != 0)
         status = gather_keys(desk);
     if (status == DESK_DONE && (command->takes & TAKES_TEXT) != 0)
         status = text_read(&desk->text);
     if (status == DESK_DONE)
-        status = store_open(&desk->store, request->store, command->access,
+        status = store_open(&desk->store, request->store, command->purpose,
                             request->wait);
     if (status != DESK_DONE)
         return status;
     status = command->run(desk);
     store_close(&desk->store);
     return status;
+}
+
+static int answer(struct desk *desk)
+{
+    switch (desk->request.asked) {
+    case ASKED_HELP:
+        help_print(desk->request.command);
+        return DESK_DONE;
+    case ASKED_VERSION:
+        printf("%s (Lagunedo) %s\n", own_name(), LAGUNEDO_VERSION);
+        return DESK_DONE;
+    case ASKED_MAN:
+        man_print();
+        return DESK_DONE;
+    default:
+        return serve(desk);
+    }
 }
 
 /* An answer that did not get out is none, though the change may stand. */
@@ -86,12 +106,8 @@ int main(int argc, char **argv)
     }
     /* A reader that has gone away is trouble to be told, not an end. */
     signal(SIGPIPE, SIG_IGN);
-    status = request_read(&desk.request, argv + 1);
+    status = request_read(&desk.request, argc, argv);
     if (status != DESK_DONE)
         return status;
-    if (desk.request.help)
-        help_print();
-    else
-        status = serve(&desk);
-    return answered(&desk, status);
+    return answered(&desk, answer(&desk));
 }

@@ -1,15 +1,21 @@
 #!/bin/sh
-# desk_test.sh DESK DESK-STOPS MAKE-RECORD DIRECTORY: the program desk as an operator meets it. The three programs and the directory,
-# in which a folder is made for the run and removed again, are absolute paths. Each part of the test is a file in desk/test.
+# desk_test.sh DESK DESK-STOPS MAKE-RECORD SHA256 FILE-CALLS SERVER-STOPS DIRECTORY: the program desk as an operator meets it, and the file
+# library below it. The programs and the directory, in which a folder is made for the run and removed again, are absolute paths. Each part
+# of the test is a file in desk/test.
 set -u
 here=$(cd "$(dirname "$0")" && pwd) || exit 2
 . "$here/../checks.sh"
 desk=$1
 stops=$2
 make_record=$3
-work=$(mktemp -d "$4/desk-test.XXXXXX") || exit 2
+sha256=$4
+file_calls=$5
+server=$6
+work=$(mktemp -d "$7/desk-test.XXXXXX") || exit 2
 trap 'rm -rf "$work"' EXIT
 cd "$work" || exit 2
+LC_ALL=C
+export LC_ALL
 
 # Two keys, of both lengths, and texts. Any bytes will do.
 printf '%048d' 4711 >old.key
@@ -40,6 +46,16 @@ gives() { # STATUS WORDS..: desk ends with the status
 prints() { # TEXT: the last run printed these lines and no more
     printf '%s\n' "$1" >lines
     check "desk prints '$1' (it printed '$(cat out)')" cmp -s lines out
+}
+
+fingerprint_of() { # FILE
+    "$sha256" <"$1"
+}
+
+counts() { # STORE COUNTS: check prints the counts and the store's fingerprint
+    gives 0 check "$1"
+    prints "$2
+fingerprint $(fingerprint_of "$1")"
 }
 
 says() { # TEXT: the last run said so on standard error
@@ -73,7 +89,8 @@ refuses() { # NUMBER COMMAND STORE WORDS..
     says "refused with $1: "
     kept "$3"
     check "nothing is left beside $3" [ ! -e "$3.desk-new" ]
+    check "no copy is made of $3" [ ! -e "$3.desk-before" ]
 }
 
-for part in commands refusals statuses files rekey stops locks; do . "$here/desk/test/$part.sh"; done
+for part in commands refusals statuses usage files fingerprint rekey stops changeover locks terminal; do . "$here/desk/test/$part.sh"; done
 all_passed desk

@@ -13,6 +13,7 @@
 #include "desk/input.h"
 #include "desk/say.h"
 #include "desk/status.h"
+#include "file/bytes.h"
 #include "lagunedo.h"
 
 /* One byte more than the library takes (01, numbers 2 and 3). */
@@ -86,7 +87,8 @@ static int serve(const struct request *request)
         status = file_read(request->data, data, sizeof data, &data_length);
     if (status != DESK_DONE)
         return status;
-    if (bytes_read(STDIN_FILENO, message, sizeof message, &length) != 0)
+    if (lagunedo_file_bytes_read(STDIN_FILENO, message, sizeof message,
+                                 &length) != 0)
         return file_trouble("standard input");
     number = request->transform(key.bytes, key.length, data, data_length,
                                 message, length);

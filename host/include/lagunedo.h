@@ -45,7 +45,8 @@
  * lagunedo_check finds is faults of layout.
  *
  * A call is whole. What a store holds after a call that was cut off half way,
- * as by a loss of power, is not said.
+ * as by a loss of power, is not said. lagunedo_file.h replaces a store file
+ * whole for that reason.
  *
  * The time a call takes is not claimed to be independent of its input: AES
  * reads tables at places that depend on the key and on the data.
@@ -225,8 +226,25 @@ uint32_t lagunedo_eme2_decipher(const uint8_t *key, size_t key_length,
  * the key that its mark names. A text is written under the new key alone.
  * If there is only one key, it may be lent as both.
  *
+ * A mark says old key or new key, and not which key that is. Adding, revising
+ * and stepping write mark 2, and no call writes mark 1: once lagunedo_check
+ * counts 0 clear and 0 under the old key, the changeover is over, and the key
+ * that was new is the only one in use. In the next changeover it is the old
+ * one, so every sheet has to be marked so first: deciphered under it, the
+ * mark made 1, and enciphered under the same key with the new lead. A job
+ * that is run with a third key and without that finds every slot
+ * LAGUNEDO_STEP_ALREADY, converts none, and returns LAGUNEDO_DONE; whoever
+ * then destroys the key before has lost every text.
+ *
+ * That marking is no call of this library, since made again it would be done
+ * twice, of which nothing shows. The desk has it as begin: it names the store
+ * that was seen, by a fingerprint, is refused on any other, and keeps the file
+ * that it replaced. From then on every call takes both keys, until the job is
+ * done.
+ *
  * Nothing shows that a key is the wrong one. Reading then gives other bytes,
- * and a step that converts a text stores other bytes in its place.
+ * and a step that converts a text stores other bytes in its place. So the
+ * desk's rekey keeps the file that it replaced too.
  *
  *
  * A store that is not sound

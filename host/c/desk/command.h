@@ -1,7 +1,7 @@
 /*
  * The commands: what each takes, what it may do to the store, and who does
- * it. The command line is read, the input gathered and the help printed by
- * these rows, so that a new command is a new row.
+ * it. The command line is read, the input gathered, and the help and the man
+ * page printed by these rows, so that a new command is a new row.
  */
 
 #ifndef DESK_COMMAND_H
@@ -21,21 +21,34 @@ struct desk {
     struct store_file store;
 };
 
-enum { TAKES_KEYS = 1, TAKES_TEXT = 2, TAKES_COPIES = 4 };
+/* Bits of takes; the rows of option.h name the bits that they go with. */
+enum {
+    TAKES_KEYS = 1,    /* --key, or --old-key and --new-key */
+    TAKES_ONE_KEY = 2, /* --key */
+    TAKES_TEXT = 4,    /* on standard input */
+    TAKES_SEEN = 8,
+    TAKES_COPIES = 16,
+    TAKES_RAW = 32,
+    TAKES_LOCK = 64
+};
 
 struct command {
     const char *name;
     const char *operands; /* the names of the numbers after STORE */
     size_t numbers;       /* and how many they are */
     int takes;
-    enum access access;
+    enum lagunedo_file_purpose purpose;
     int (*run)(struct desk *desk); /* gives the status to end with */
     const char *summary;
+    const char *details; /* a paragraph for the help of this command */
 };
 
-enum { COMMANDS = 8 };
+enum { COMMANDS = 9 };
 
 extern const struct command commands[COMMANDS];
+
+/* The command of that name, or NULL. */
+const struct command *command_named(const char *name);
 
 /* survey.c */
 int run_new(struct desk *desk);
@@ -47,6 +60,9 @@ int run_add(struct desk *desk);
 int run_read(struct desk *desk);
 int run_revise(struct desk *desk);
 int run_remove(struct desk *desk);
+
+/* begin.c */
+int run_begin(struct desk *desk);
 
 /* rekey.c */
 int run_rekey(struct desk *desk);

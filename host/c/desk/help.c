@@ -1,74 +1,123 @@
 /*
- * The help: usage and statuses come from their tables, so that they are those
- * of the program.
+ * The help: usage, options and statuses come from their tables, so that they
+ * are those of the program.
  */
 
-#include <stddef.h>
 #include <stdio.h>
-#include <string.h>
 
-#include "command.h"
 #include "help.h"
+#include "manual.h"
+#include "option.h"
+#include "page.h"
 #include "say.h"
 #include "status.h"
 
-static const char options[] =
-    "\n"
-    "options:\n"
-    "  --key FILE         the key (add, read, revise, rekey); or, while two\n"
-    "  --old-key FILE     keys are in use, the old one\n"
-    "  --new-key FILE     and the new one\n"
-    "  --copies N         rekey: by N copies of the job in turn, 1 to 64\n"
-    "  --wait             where the store is in use, waits until it is not\n"
-    "  --help             prints this\n";
+enum { TERM_ROOM = 64, TERMS_END = 27, STATUSES_END = 7 };
 
-static const char notes[] =
-    "\n"
-    "A key is a file of exactly 48 or 64 bytes. Texts are read from standard\n"
-    "input and written to standard output, byte for byte.\n"
-    "\n"
-    "Nothing shows that a key is the wrong one. read then prints other bytes,\n"
-    "and rekey, given a wrong old key, stores other bytes for good: copy the\n"
-    "store before it, and read a sheet after it. A sheet with mark 2 is taken\n"
-    "to be under the new key already, whichever key it was.\n"
-    "\n"
-    "A store is replaced whole: STORE.desk-new is written and flushed, and\n"
-    "renamed to STORE. A run that is cut off leaves the old store or the new\n"
-    "one, so the same command is simply given again. If the first had worked,\n"
-    "the store passes check and nothing else has changed it since, then add\n"
-    "is refused with 11, revise with 8 and remove with 7, new ends with 106,\n"
-    "and rekey finds its sheets converted already.\n"
-    "\n"
-    "STORE.desk-lock is the lock, and stays. Mode, owner and group of STORE\n"
-    "stay where the system lets them; a new one is for its owner alone. Where\n"
-    "a symbolic link is named, the file behind it is replaced.\n";
+const char *help_usage(const struct command *command)
+{
+    static char usage[TERM_ROOM];
 
-static const char *const examples[] = {
-    "new plant.store 200",
-    "add plant.store 305 --key plant.key <sheet305.txt",
-    "read plant.store 305 --key plant.key",
-    "revise plant.store 305 1 --key plant.key <sheet305.txt",
-    "list plant.store",
-    "rekey plant.store --old-key old.key --new-key new.key",
-    "check plant.store && cp plant.store /mnt/backup"
-};
+    snprintf(usage, sizeof usage, "%s STORE%s", command->name,
+             command->operands);
+    return usage;
+}
 
-void help_print(void)
+const char *help_option(size_t number)
+{
+    static char term[TERM_ROOM];
+    const struct option_row *option = &options[number];
+    int at = 0;
+
+    if (option->letter != 0)
+        at = snprintf(term, sizeof term, "-%c, ", option->letter);
+    snprintf(term + at, sizeof term - (size_t)at, "--%s%s%s", option->name,
+             option->value == NULL ? "" : " ",
+             option->value == NULL ? "" : option->value);
+    return term;
+}
+
+/* Those that go with a command, or all. */
+static void show_options(const struct command *command)
 {
     size_t i;
 
-    printf("usage: %s COMMAND STORE [NUMBERS] [OPTIONS]\n\n"
-           "Keeps the instruction sheets of printing jobs enciphered in the "
-           "file STORE.\n\ncommands:\n", own_name());
+    printf("\noptions:\n");
+    for (i = 0; i < OPTIONS; i++)
+        if (command == NULL || (command->takes & options[i].with) != 0)
+            page_row(help_option(i), TERMS_END, options[i].meaning);
+}
+
+static void show_statuses(void)
+{
+    const char *meaning;
+    char term[TERM_ROOM];
+    int status;
+    size_t i;
+
+    printf("\nexit status:\n");
+    for (i = 0; status_row(i, &status, &meaning); i++) {
+        snprintf(term, sizeof term, "%3d", status);
+        page_row(term, STATUSES_END, meaning);
+    }
+    putchar('\n');
+    page_paragraph(0, manual_statuses);
+}
+
+static void show_part(const struct part *part)
+{
+    size_t i;
+
+    printf("\n%s:\n", part->title);
+    for (i = 0; part->paragraph[i] != NULL; i++) {
+        if (i > 0)
+            putchar('\n');
+        page_paragraph(2, part->paragraph[i]);
+    }
+}
+
+static void help_of_all(void)
+{
+    size_t i;
+
+    printf("usage: %s COMMAND STORE [NUMBERS] [OPTIONS]\n", own_name());
+    printf("       %s --help [COMMAND]\n\n", own_name());
+    page_paragraph(0, manual_purpose);
+    printf("\ncommands:\n");
     for (i = 0; i < COMMANDS; i++)
-        printf("  %s STORE%-*s  %s\n", commands[i].name,
-               (int)(17 - strlen(commands[i].name)), commands[i].operands,
-               commands[i].summary);
-    printf("%s%s\nexit status:\n", options, notes);
-    status_list();
-    printf("\n1 to 14 are refusals of the library; 2, 3, 13 and 14 do not "
-           "occur here. After\na refusal the file is as it was.\n\n"
-           "examples:\n");
-    for (i = 0; i < sizeof examples / sizeof *examples; i++)
-        printf("  %s %s\n", own_name(), examples[i]);
+        page_row(help_usage(&commands[i]), TERMS_END, commands[i].summary);
+    show_options(NULL);
+    for (i = 0; i < PARTS; i++)
+        show_part(&manual[i]);
+    show_statuses();
+    printf("\nexamples:\n");
+    for (i = 0; manual_examples[i] != NULL; i++)
+        printf("  %s %s\n", own_name(), manual_examples[i]);
+}
+
+/* What has to be given is named; a pair of keys may stand for the one. */
+static void show_usage(const struct command *command)
+{
+    int takes = command->takes;
+
+    printf("usage: %s %s%s%s%s\n\n", own_name(), help_usage(command),
+           (takes & (TAKES_KEYS | TAKES_ONE_KEY)) != 0 ? " --key FILE" : "",
+           (takes & TAKES_SEEN) != 0 ? " --seen FINGERPRINT" : "",
+           takes != 0 ? " [OPTIONS]" : "");
+}
+
+void help_print(const struct command *command)
+{
+    if (command == NULL) {
+        help_of_all();
+        return;
+    }
+    show_usage(command);
+    page_paragraph(2, command->summary);
+    putchar('\n');
+    page_paragraph(0, command->details);
+    if (command->takes != 0)
+        show_options(command);
+    printf("\n%s --help tells of every command and exit status.\n",
+           own_name());
 }

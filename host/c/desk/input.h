@@ -31,12 +31,9 @@ struct text {
 };
 
 /*
- * Reads until the input ends or the room is full. Gives 0 and the number of
- * bytes, or -1 with errno set.
+ * All bytes of a file, until it ends or the room is full, and how many they
+ * are; a status.
  */
-int bytes_read(int input, uint8_t *bytes, size_t room, size_t *length);
-
-/* The same from a file; a status. */
 int file_read(const char *file, uint8_t *bytes, size_t room, size_t *length);
 
 /* The key in the file; a status. */

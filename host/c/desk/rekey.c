@@ -12,6 +12,7 @@
 #include "../record.h"
 #include "command.h"
 #include "progress.h"
+#include "refusal.h"
 #include "say.h"
 #include "status.h"
 
@@ -114,6 +115,33 @@ static int tell_damage(const struct desk *desk, const struct rekeying *all)
     return status;
 }
 
+static int same_key(const struct desk *desk)
+{
+    const struct key *old = &desk->old_key, *new = &desk->new_key;
+
+    return old->length == new->length &&
+           memcmp(old->bytes, new->bytes, old->length) == 0;
+}
+
+/*
+ * A mark says new key and not which. The first copy is first at each slot, so
+ * what it found so was so before this run.
+ */
+static void tell_already(const struct desk *desk, const struct rekeying *all)
+{
+    uint32_t already = all->copy[0].had[LAGUNEDO_STEP_ALREADY];
+
+    if (already == 0 || same_key(desk))
+        return;
+    complain("sheets found marked new key, and left as they were: %u",
+             (unsigned)already);
+    complain("each is under the key that it was last written with");
+    complain("if this rekeying was under way, with both keys given, that is "
+             "the new key");
+    complain("if none was under way, it is another key: keep that, and give "
+             "begin first");
+}
+
 static int any_converted(const struct rekeying *all)
 {
     uint32_t i;
@@ -132,13 +160,14 @@ int run_rekey(struct desk *desk)
     int status = DESK_DONE, damage;
 
     if (number != LAGUNEDO_DONE)
-        return refused(number);
+        return refusal(desk, number);
     if (any_converted(&all)) {
-        status = store_replace(&desk->store);
+        status = store_replace_and_keep(&desk->store);
         if (!desk->store.replaced)
             return status;
     }
     show_copies(&all);
+    tell_already(desk, &all);
     damage = tell_damage(desk, &all);
     return status == DESK_DONE ? damage : status;
 }

@@ -1,23 +1,28 @@
 /*
- * Reading the command line. Options may stand anywhere, up to a word --.
+ * Reading the command line, by getopt_long. Options may stand anywhere, up to
+ * a word --.
  */
 
+#include <getopt.h>
 #include <string.h>
 
 #include "command.h"
 #include "number.h"
+#include "option.h"
 #include "request.h"
 #include "say.h"
 #include "status.h"
 
 enum { OPERANDS = 2 + NUMBERS };
 
+/* What getopt_long gives: for a word that is no option, and for ours. */
+enum { OPERAND = 1, FIRST_OPTION = 256 };
+
 /* The words, before anything is known of the command. */
 struct words {
     const char *operand[OPERANDS];
     size_t operands;
-    const char *old_key, *new_key, *key, *copies;
-    int wait, help;
+    const char *given[OPTIONS]; /* its value, or "" if it has none */
 };
 
 static int wrong(const char *what, const char *word)
@@ -26,77 +31,89 @@ static int wrong(const char *what, const char *word)
     return DESK_USAGE;
 }
 
-/* Where the value of an option goes; NULL if there is no such option. */
-static const char **value_of(struct words *words, const char *option)
+static int take_operand(struct words *words, const char *word)
 {
-    if (strcmp(option, "--old-key") == 0)
-        return &words->old_key;
-    if (strcmp(option, "--new-key") == 0)
-        return &words->new_key;
-    if (strcmp(option, "--key") == 0)
-        return &words->key;
-    if (strcmp(option, "--copies") == 0)
-        return &words->copies;
-    return NULL;
-}
-
-/* One option, and its value if it has one: moves on to the last word used. */
-static int take_option(struct words *words, char ***at)
-{
-    const char *option = **at, **value = value_of(words, option);
-
-    if (strcmp(option, "--help") == 0)
-        words->help = 1;
-    else if (strcmp(option, "--wait") == 0)
-        words->wait = 1;
-    else if (value == NULL)
-        return wrong("there is no option ", option);
-    else if (*value != NULL)
-        return wrong("given twice: ", option);
-    else if ((*at)[1] == NULL)
-        return wrong("a word is missing after ", option);
-    else
-        *value = *++*at;
+    if (words->operands == OPERANDS)
+        return wrong("one word too many: ", word);
+    words->operand[words->operands++] = word;
     return DESK_DONE;
 }
 
-static int take_words(struct words *words, char **at)
-{
-    int ended = 0, status = DESK_DONE;
-
-    for (; *at != NULL && status == DESK_DONE; at++) {
-        if (!ended && strcmp(*at, "--") == 0)
-            ended = 1;
-        else if (!ended && **at == '-')
-            status = take_option(words, &at);
-        else if (words->operands == OPERANDS)
-            status = wrong("one word too many: ", *at);
-        else
-            words->operand[words->operands++] = *at;
-    }
-    return status;
-}
-
-static const struct command *command_named(const char *name)
+/* What getopt_long got out of the word. */
+static int take(struct words *words, int got, const char *word)
 {
     size_t i;
 
-    for (i = 0; i < COMMANDS; i++)
-        if (strcmp(commands[i].name, name) == 0)
-            return &commands[i];
-    return NULL;
+    if (got == OPERAND)
+        return take_operand(words, optarg);
+    if (got == '?')
+        return wrong("there is no option ", word);
+    if (got == ':')
+        return wrong("a word is missing after ", word);
+    for (i = 0; i < OPTIONS; i++)
+        if (got == FIRST_OPTION + (int)i || got == options[i].letter)
+            break;
+    if (words->given[i] != NULL && options[i].value != NULL)
+        return wrong("given twice: --", options[i].name);
+    words->given[i] = options[i].value != NULL ? optarg : "";
+    return DESK_DONE;
+}
+
+static void long_options(struct option list[OPTIONS + 1])
+{
+    size_t i;
+
+    memset(list, 0, (OPTIONS + 1) * sizeof *list);
+    for (i = 0; i < OPTIONS; i++) {
+        list[i].name = options[i].name;
+        list[i].has_arg = options[i].value != NULL;
+        list[i].val = FIRST_OPTION + (int)i;
+    }
+}
+
+/* "-" has the operands come in their order, ":" leaves complaining to us. */
+static int take_words(struct words *words, int argc, char **argv)
+{
+    struct option list[OPTIONS + 1];
+    int got, status = DESK_DONE;
+    const char *word;
+
+    long_options(list);
+    while (status == DESK_DONE) {
+        word = argv[optind];
+        got = getopt_long(argc, argv, "-:h", list, NULL);
+        if (got == -1)
+            break;
+        status = take(words, got, word);
+    }
+    while (status == DESK_DONE && optind < argc)
+        status = take_operand(words, argv[optind++]);
+    return status;
+}
+
+/* What is asked for in the place of a command; help may be of one. */
+static int take_asked(struct request *request, const struct words *words)
+{
+    const char *first = words->operands == 0 ? NULL : words->operand[0];
+
+    request->asked = words->given[OPTION_HELP] != NULL      ? ASKED_HELP
+                     : words->given[OPTION_VERSION] != NULL ? ASKED_VERSION
+                     : words->given[OPTION_MAN] != NULL     ? ASKED_MAN
+                                                            : ASKED_COMMAND;
+    if (first != NULL)
+        request->command = command_named(first);
+    if (first != NULL && request->command == NULL)
+        return wrong("there is no command ", first);
+    if (first == NULL && request->asked == ASKED_COMMAND)
+        return wrong("there is no command", "");
+    return DESK_DONE;
 }
 
 static int take_operands(struct request *request, const struct words *words)
 {
-    const struct command *command;
+    const struct command *command = request->command;
     size_t i;
 
-    if (words->operands == 0)
-        return wrong("there is no command", "");
-    command = request->command = command_named(words->operand[0]);
-    if (command == NULL)
-        return wrong("there is no command ", words->operand[0]);
     if (words->operands != 2 + command->numbers) {
         complain("%s takes STORE%s; %s --help tells how", command->name,
                  command->operands, own_name());
@@ -110,52 +127,79 @@ static int take_operands(struct request *request, const struct words *words)
     return DESK_DONE;
 }
 
+/* Each option that is given goes with the command. */
+static int look_at_options(const struct command *command,
+                           const struct words *words)
+{
+    size_t i;
+
+    for (i = 0; i < OPTIONS; i++)
+        if (words->given[i] != NULL && options[i].with != 0 &&
+            (options[i].with & command->takes) == 0) {
+            complain("--%s does not go with %s; %s --help tells how",
+                     options[i].name, command->name, own_name());
+            return DESK_USAGE;
+        }
+    return DESK_DONE;
+}
+
 /* Both keys from --key, or one from each of the other two options. */
 static int take_keys(struct request *request, const struct words *words)
 {
-    int both = words->old_key != NULL && words->new_key != NULL;
-    int any = words->old_key != NULL || words->new_key != NULL;
+    const char *one = words->given[OPTION_KEY];
+    const char *old = words->given[OPTION_OLD_KEY];
+    const char *new = words->given[OPTION_NEW_KEY];
+    int takes = request->command->takes;
 
-    if ((request->command->takes & TAKES_KEYS) == 0) {
-        if (any || words->key != NULL)
-            return wrong("no key is taken by ", request->command->name);
-        return DESK_DONE;
-    }
-    if (words->key != NULL ? any : !both)
+    if ((takes & TAKES_ONE_KEY) != 0 && one == NULL)
+        return wrong("--key goes with ", request->command->name);
+    if ((takes & TAKES_KEYS) != 0 &&
+        (one != NULL ? old != NULL || new != NULL
+                     : old == NULL || new == NULL))
         return wrong("either --key, or --old-key and --new-key, go with ",
                      request->command->name);
-    request->old_key = words->key != NULL ? words->key : words->old_key;
-    request->new_key = words->key != NULL ? words->key : words->new_key;
+    request->old_key = one != NULL ? one : old;
+    request->new_key = one != NULL ? one : new;
     return DESK_DONE;
 }
 
 static int take_rest(struct request *request, const struct words *words)
 {
-    request->wait = words->wait;
-    if (words->wait && request->command->access == READS)
-        return wrong("--wait does not go with ", request->command->name);
+    const char *copies = words->given[OPTION_COPIES];
+    const char *seen = words->given[OPTION_SEEN];
+
+    request->wait = words->given[OPTION_WAIT] != NULL;
+    request->raw = words->given[OPTION_RAW] != NULL;
     request->copies = 1;
-    if (words->copies == NULL)
+    if (copies != NULL &&
+        (!number_read(copies, &request->copies) || request->copies == 0 ||
+         request->copies > COPIES_MOST))
+        return wrong("not a number of copies from 1 to 64: ", copies);
+    if ((request->command->takes & TAKES_SEEN) == 0)
         return DESK_DONE;
-    if ((request->command->takes & TAKES_COPIES) == 0)
-        return wrong("--copies does not go with ", request->command->name);
-    if (!number_read(words->copies, &request->copies) ||
-        request->copies == 0 || request->copies > COPIES_MOST)
-        return wrong("not a number of copies from 1 to 64: ", words->copies);
+    if (seen == NULL)
+        return wrong("--seen goes with ", request->command->name);
+    if (!fingerprint_read(seen, request->seen))
+        return wrong("not a fingerprint of 64 hex digits, as check prints: ",
+                     seen);
     return DESK_DONE;
 }
 
-int request_read(struct request *request, char **at)
+int request_read(struct request *request, int argc, char **argv)
 {
     struct words words;
     int status;
 
     memset(&words, 0, sizeof words);
-    status = take_words(&words, at);
-    request->help = words.help;
-    if (status != DESK_DONE || words.help)
+    memset(request, 0, sizeof *request);
+    status = take_words(&words, argc, argv);
+    if (status == DESK_DONE)
+        status = take_asked(request, &words);
+    if (status != DESK_DONE || request->asked != ASKED_COMMAND)
         return status;
     status = take_operands(request, &words);
+    if (status == DESK_DONE)
+        status = look_at_options(request->command, &words);
     if (status == DESK_DONE)
         status = take_keys(request, &words);
     if (status == DESK_DONE)

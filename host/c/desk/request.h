@@ -8,6 +8,8 @@
 #include <stddef.h>
 #include <stdint.h>
 
+#include "fingerprint.h"
+
 struct command;
 
 /* The numbers after STORE, by what each command takes them for. */
@@ -15,17 +17,20 @@ enum { SLOTS = 0, SHEET = 0, SEEN = 1, NUMBERS = 2 };
 
 enum { COPIES_MOST = 64 };
 
+enum asked { ASKED_COMMAND, ASKED_HELP, ASKED_VERSION, ASKED_MAN };
+
 struct request {
-    int help; /* --help: nothing else is looked at */
-    const struct command *command;
+    enum asked asked;
+    const struct command *command; /* with ASKED_HELP NULL means of all */
     const char *store;
     uint32_t number[NUMBERS];
     const char *old_key, *new_key; /* files; the same string with --key */
+    char seen[FINGERPRINT_DIGITS + 1];
     uint32_t copies;
-    int wait;
+    int raw, wait;
 };
 
 /* Reads the command line; DESK_DONE, or DESK_USAGE after a complaint. */
-int request_read(struct request *request, char **words);
+int request_read(struct request *request, int argc, char **argv);
 
 #endif

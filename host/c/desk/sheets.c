@@ -6,7 +6,8 @@
 #include <stdio.h>
 
 #include "command.h"
-#include "say.h"
+#include "refusal.h"
+#include "show.h"
 #include "status.h"
 
 /* The store that an accepted call left is kept, and then answered for. */
@@ -30,7 +31,7 @@ int run_add(struct desk *desk)
         &revision);
 
     if (number != LAGUNEDO_DONE)
-        return refused(number);
+        return refusal(desk, number);
     return keep_and_tell(store, revision);
 }
 
@@ -45,7 +46,7 @@ int run_revise(struct desk *desk)
         desk->text.bytes, desk->text.length, &revision);
 
     if (number != LAGUNEDO_DONE)
-        return refused(number);
+        return refusal(desk, number);
     return keep_and_tell(store, revision);
 }
 
@@ -57,7 +58,7 @@ int run_remove(struct desk *desk)
     int status;
 
     if (number != LAGUNEDO_DONE)
-        return refused(number);
+        return refusal(desk, number);
     status = store_replace(store);
     if (store->replaced)
         printf("removed\n");
@@ -80,8 +81,8 @@ int run_read(struct desk *desk)
         &length, &revision);
 
     if (number != LAGUNEDO_DONE)
-        return refused(number);
+        return refusal(desk, number);
     fprintf(stderr, "revision %u\n", (unsigned)revision);
-    fwrite(text->bytes, 1, length, stdout);
+    text_show(text->bytes, length, desk->request.raw);
     return DESK_DONE;
 }

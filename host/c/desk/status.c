@@ -3,7 +3,6 @@
  */
 
 #include <stddef.h>
-#include <stdio.h>
 
 #include "lagunedo.h"
 #include "status.h"
@@ -36,9 +35,12 @@ static const struct {
     { DESK_FILE,
       "a file could not be read or written; the store is as it was" },
     { DESK_UNCONFIRMED,
-      "the store was changed, but its directory could not be flushed,\n"
-      "       or the answer not be printed" },
-    { DESK_EXISTS, "new: there is a file of that name already" }
+      "the store was changed, but its directory could not be flushed, or the "
+      "answer not be printed" },
+    { DESK_EXISTS, "new: there is a file of that name already" },
+    { DESK_OTHER_STORE, "begin: the store is not the one that was seen" },
+    { DESK_UNDER_WAY,
+      "begin: a sheet is not marked new key, so a changeover is under way" }
 };
 
 enum { STATUSES = sizeof statuses / sizeof *statuses };
@@ -53,10 +55,11 @@ const char *status_meaning(int status)
     return "a number that desk does not know";
 }
 
-void status_list(void)
+int status_row(size_t i, int *status, const char **meaning)
 {
-    size_t i;
-
-    for (i = 0; i < STATUSES; i++)
-        printf("  %3d  %s\n", statuses[i].status, statuses[i].meaning);
+    if (i >= STATUSES)
+        return 0;
+    *status = statuses[i].status;
+    *meaning = statuses[i].meaning;
+    return 1;
 }

@@ -6,6 +6,8 @@
 #ifndef DESK_STATUS_H
 #define DESK_STATUS_H
 
+#include <stddef.h>
+
 enum desk_status {
     DESK_DONE = 0,
     DESK_FAULTY = 100,
@@ -14,12 +16,16 @@ enum desk_status {
     DESK_IN_USE = 103,
     DESK_FILE = 104,
     DESK_UNCONFIRMED = 105,
-    DESK_EXISTS = 106
+    DESK_EXISTS = 106,
+    DESK_OTHER_STORE = 107,
+    DESK_UNDER_WAY = 108
 };
 
 const char *status_meaning(int status);
 
-/* A line on standard output for each status, with what it means. */
-void status_list(void);
+/*
+ * The i-th status, from 0 on, and what it means; 0 once there is none.
+ */
+int status_row(size_t i, int *status, const char **meaning);
 
 #endif

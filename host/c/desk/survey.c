@@ -7,20 +7,14 @@
 #include <string.h>
 
 #include "../record.h"
-#include "command.h"
+#include "refusal.h"
 #include "say.h"
 #include "status.h"
+#include "survey.h"
 
-struct counts {
-    uint32_t used, free, clear, old_key, new_key;
-};
-
-/*
- * The library's check. What it finds amiss is the answer, in 01's words, and
- * its meaning goes to standard error; a status.
- */
-static int survey(const struct store_file *store, struct counts *counts)
+int survey(const struct desk *desk, struct counts *counts)
 {
+    const struct store_file *store = &desk->store;
     uint32_t fault;
     uint32_t number = lagunedo_check(store->bytes, store->length, &fault,
                                      &counts->used, &counts->free,
@@ -31,12 +25,12 @@ static int survey(const struct store_file *store, struct counts *counts)
         return DESK_DONE;
     if (number == LAGUNEDO_FAULT) {
         printf("fault at %u\n", (unsigned)fault);
-        complain("slot %u is unsound or repeats a lower slot's sheet number",
-                 (unsigned)fault);
+        complain("%s: slot %u is unsound or repeats a lower slot's sheet "
+                 "number", desk->request.store, (unsigned)fault);
         return DESK_FAULTY;
     }
     printf("refused %u\n", (unsigned)number);
-    return refused(number);
+    return refusal(desk, number);
 }
 
 static void show_counts(const struct counts *counts)
@@ -59,7 +53,7 @@ int run_new(struct desk *desk)
                         ? (size_t)STORE_ROOM
                         : (size_t)slots * LAGUNEDO_RECORD_SIZE;
     memset(store->bytes, 0, store->length);
-    status = survey(store, &counts);
+    status = survey(desk, &counts);
     if (status != DESK_DONE)
         return status;
     status = store_replace(store);
@@ -70,12 +64,16 @@ int run_new(struct desk *desk)
 
 int run_check(struct desk *desk)
 {
+    char digits[FINGERPRINT_DIGITS + 1];
     struct counts counts;
-    int status = survey(&desk->store, &counts);
+    int status = survey(desk, &counts);
 
-    if (status == DESK_DONE)
-        show_counts(&counts);
-    return status;
+    if (status != DESK_DONE)
+        return status;
+    show_counts(&counts);
+    fingerprint(desk->store.bytes, desk->store.length, digits);
+    printf("fingerprint %s\n", digits);
+    return DESK_DONE;
 }
 
 /* A slot whose sheet number is 0 is free, and has no line (01, Listing). */
@@ -96,7 +94,7 @@ static void show_slots(const struct store_file *store)
 int run_list(struct desk *desk)
 {
     struct counts counts;
-    int status = survey(&desk->store, &counts);
+    int status = survey(desk, &counts);
 
     if (status == DESK_DONE) {
         show_slots(&desk->store);

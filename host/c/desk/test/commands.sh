@@ -3,8 +3,7 @@
 gives 0 new store 3
 prints "used 0 free 3 clear 0 old 0 new 0"
 holds store free free free
-gives 0 check store
-prints "used 0 free 3 clear 0 old 0 new 0"
+counts store "used 0 free 3 clear 0 old 0 new 0"
 
 record blue305 305 1 2 blue new.key
 record dry306 306 1 2 dry new.key
@@ -82,8 +81,7 @@ prints "0 305 2 0 16
 used 1 free 1 clear 1 old 0 new 0"
 record blue306 306 7 1 blue old.key
 cat hold305 blue306 >two.store
-gives 0 check two.store
-prints "used 2 free 0 clear 1 old 1 new 0"
+counts two.store "used 2 free 0 clear 1 old 1 new 0"
 gives 0 read two.store 305 $keys
 check "a sheet in clear is read" cmp -s out hold
 gives 0 read two.store 306 $keys

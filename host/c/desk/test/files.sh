@@ -30,14 +30,19 @@ check "nothing is made behind a link" [ ! -e nowhere ]
 # Stores in other directories.
 gives 0 new "$work/elsewhere/store" 1
 gives 0 add elsewhere/store 305 $keys <blue
-gives 0 check ./elsewhere/../elsewhere/store
-prints "used 1 free 0 clear 0 old 0 new 1"
+counts ./elsewhere/../elsewhere/store "used 1 free 0 clear 0 old 0 new 1"
 
 # The names beside a store are no stores of their own: the next change would remove one.
-for ending in desk-new desk-lock; do
+for ending in desk-new desk-lock desk-before; do
     gives 102 new "own.$ending" 2
     says "are for the store beside them"
 done
+# A copy may be looked at, and not changed.
+cp own own.desk-before
+counts own.desk-before "used 0 free 2 clear 0 old 0 new 0"
+gives 102 add own.desk-before 305 $keys <blue
+rm own.desk-before
+gives 102 check own.desk-lock
 
 # A store that is looked at needs no lock, and none is made.
 cp own looked

@@ -4,9 +4,13 @@
 mkfifo held go told
 gives 0 new shared 3
 
-hold() { # WORDS.., with the text on 3: a run that goes on with the lock until it is released
-    DESK_HOLD=rename "$stops" "$@" <&3 >held.out 2>held.err &
-    check "desk $* is held up" timeout 60 cat held
+hold_up() { # PROGRAM WORDS.., with its input on 3: a run that goes on with the lock until it is released
+    DESK_HOLD=rename "$@" <&3 >held.out 2>held.err &
+    check "$* is held up" timeout 60 cat held
+}
+
+hold() { # WORDS.., with the text on 3
+    hold_up "$stops" "$@"
 }
 
 release() {
@@ -16,12 +20,12 @@ release() {
 # A second run that changes the store is refused at once; those that look go on and see the old store.
 hold add shared 305 $keys 3<blue
 note shared
-for words in "add shared 306 $keys" "revise shared 305 1 $keys" "remove shared 305" "rekey shared $keys"; do
+for words in "add shared 306 $keys" "revise shared 305 1 $keys" "remove shared 305" "rekey shared $keys" \
+    "begin shared --key new.key --seen $(fingerprint_of shared)"; do
     gives 103 $words <dry
     says "shared: in use by another run"
 done
-gives 0 check shared
-prints "used 0 free 3 clear 0 old 0 new 0"
+counts shared "used 0 free 3 clear 0 old 0 new 0"
 kept shared
 gives 0 new unshared 1
 release
@@ -49,3 +53,23 @@ wait "$second"
 check "the second run finds the store" [ $? -eq 106 ]
 wait
 holds made free
+
+# A job server over the same file library: the desk is refused while it has the lock, and it waits for the desk.
+check "the library's calls answer as its header says" sh -c 'mkdir calls && cd calls && "$1" >../calls.out' sh "$file_calls"
+gives 0 new served 2
+hold_up "$server" served new.key 305 "$(cat hold)" 3</dev/null
+gives 103 add served 306 $keys <dry
+counts served "used 0 free 2 clear 0 old 0 new 0"
+release
+wait
+check "the server has answered" [ "$(cat held.out)" = "added 305 at revision 1" ]
+record hold305new 305 1 2 hold new.key
+holds served hold305new free
+hold add served 306 $keys 3<dry
+"$server" served new.key 307 "$(cat hold)" >waited 2>told.err &
+release
+wait
+check "the server waited, and found no free slot" [ "$(cat told.err)" = "server: refused with 10" ]
+holds served hold305new dry306
+ends_with 1 "$server" served new.key 305 "$(cat hold)"
+holds served hold305new dry306

@@ -13,7 +13,21 @@ for length in 0 16 47 49 63 65 4096; do
     refuses 1 revise refusing 305 2 --key wrong.key <blue
     refuses 1 rekey refusing --old-key old.key --new-key wrong.key
 done
-says "refused with 1: a key is not 48 or 64 bytes long"
+says "wrong.key: refused with 1: a key is not 48 or 64 bytes long"
+says "; it has 65 bytes or more"
+
+# Which file, and which length: either key, and the newline that an editor leaves.
+{ cat old.key; echo; } >newline.key
+refuses 1 read refusing 305 --old-key newline.key --new-key new.key
+says "desk: newline.key: refused with 1: a key is not 48 or 64 bytes long"
+says "; it has 49 bytes, the last a newline"
+refuses 1 read refusing 305 --old-key old.key --new-key newline.key
+says "desk: newline.key: refused with 1: a key is not 48 or 64 bytes long"
+says "; it has 49 bytes, the last a newline"
+bytes 63 >short.key
+refuses 1 read refusing 305 --key short.key
+says "desk: short.key: refused with 1: a key is not 48 or 64 bytes long"
+says "; it has 63 bytes"
 
 # 4: a byte too few, a byte too many, a record too many.
 cat refusing free >whole3
@@ -28,17 +42,19 @@ for length in 1 2111 2113 6335; do
     refuses 4 add ragged 306 $keys <blue
     refuses 4 revise ragged 305 2 $keys <blue
 done
-says "refused with 4: the store is not a whole number of records, or over 1,024"
+says "ragged: refused with 4: the store is not a whole number of records, or over 1,024; it has 6335 bytes, and a record has 2112"
 dd if=/dev/zero of=long bs=2112 count=1025 2>/dev/null
 for command in check list; do
     refuses 4 "$command" long
     prints "refused 4"
+    says "; it has 2162689 bytes or more, and a record has 2112"
 done
 refuses 4 remove long 305
 for slots in 1025 2033602 4294967295; do
     gives 4 new none "$slots"
     prints "refused 4"
-    says "refused with 4: "
+    says "none: refused with 4: "
+    says "; $slots slots were asked for"
     check "no store is made" [ ! -e none ]
 done
 
@@ -55,14 +71,18 @@ for length in 1 15 2097 100000; do
     refuses 6 add refusing 306 $keys <wrong
     refuses 6 revise refusing 305 2 $keys <wrong
 done
+says "standard input: refused with 6: the text is below 16 or above 2,096 bytes; it has 2097 bytes or more"
+bytes 15 >wrong
+refuses 6 add refusing 306 $keys <wrong
+says "; it has 15 bytes"
 refuses 6 add refusing 306 $keys </dev/null
-says "refused with 6: the text is below 16 or above 2,096 bytes"
+says "; it has 0 bytes"
 
 # 7
 refuses 7 read refusing 306 $keys
 refuses 7 revise refusing 306 1 $keys <blue
 refuses 7 remove refusing 306
-says "refused with 7: no slot has the sheet number"
+says "desk: refusing: refused with 7: no slot has the sheet number"
 
 # 8: older, newer, and equal to the stored revision only in its low 16 bits.
 for seen in 0 1 3 65538 4294967295; do refuses 8 revise refusing 305 "$seen" $keys <blue; done

@@ -13,10 +13,35 @@ cat clear1 old2 free new4 old5 >mixed
 cp mixed one
 gives 0 rekey one $keys
 prints "copy 1 converted 3 already 1 free 1 damaged 0"
-check "no bar where there is no terminal" [ ! -s err ]
+check "no bar where there is no terminal" [ "$(grep -c '%' err)" = 0 ]
+says "one.desk-before is the store as it was"
+holds one.desk-before mixed
 holds one to1 to2 free new4 to5
-gives 0 check one
-prints "used 4 free 1 clear 0 old 0 new 4"
+counts one "used 4 free 1 clear 0 old 0 new 4"
+
+# What was found under the new key is said in words, if there are two keys; by one copy or by several it is the same.
+found_already() { # NUMBER
+    says "desk: sheets found marked new key, and left as they were: $1"
+    says "desk: each is under the key that it was last written with"
+    says "desk: if this rekeying was under way, with both keys given, that is the new key"
+    says "desk: if none was under way, it is another key: keep that, and give begin first"
+}
+silent_about_it() {
+    check "nothing is said of sheets found marked new key" [ "$(grep -c 'new key' err)" = 0 ]
+}
+cp mixed words
+gives 0 rekey words $keys --copies 2
+found_already 1
+cp mixed words
+gives 0 rekey words --key old.key
+silent_about_it
+cp new.key same.key
+cp mixed words
+gives 0 rekey words --old-key new.key --new-key same.key
+silent_about_it
+cat clear1 old2 free >words
+gives 0 rekey words $keys
+silent_about_it
 
 # In turn, the first copy is always first at a slot.
 cp mixed three
@@ -34,7 +59,9 @@ holds many to1 to2 free new4 to5
 note one
 gives 0 rekey one $keys
 prints "copy 1 converted 0 already 4 free 1 damaged 0"
+found_already 4
 kept one
+holds one.desk-before mixed
 gives 0 rekey empty.store $keys
 prints "copy 1 converted 0 already 0 free 0 damaged 0"
 
@@ -49,12 +76,11 @@ cp unsound alone
 note alone
 gives 101 rekey alone $keys
 kept alone
+check "no copy is made where nothing is converted" [ ! -e alone.desk-before ]
 
-# On a terminal there is a bar, up to the end. script(1) lends one where it can.
-if script -qec true /dev/null </dev/null >/dev/null 2>&1; then
-    cp mixed shown
-    script -qec "'$desk' rekey shown $keys" /dev/null </dev/null >seen
-    check "the bar on a terminal begins" grep -q '\[##########  ' seen
-    check "the bar on a terminal ends" grep -q '\[##########*\] 100%' seen
-    holds shown to1 to2 free new4 to5
-fi
+# A copy that cannot be made: the store stays.
+cp mixed uncopied
+mkdir uncopied.desk-before
+note uncopied
+gives 104 rekey uncopied $keys
+kept uncopied

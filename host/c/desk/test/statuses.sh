@@ -1,4 +1,4 @@
-# The statuses from 100 up, but for those that rekey.sh and locks.sh meet; and the help.
+# The statuses from 100 to 106, but for those that rekey.sh and locks.sh meet. changeover.sh meets 107 and 108.
 
 # 100: each kind of fault. Nothing else is printed, whatever good slots stand before it.
 record two305 305 3 2 blue new.key
@@ -109,14 +109,3 @@ gives 106 new store 3
 says "store: there is a file of that name already"
 kept store
 gives 106 new . 3
-
-# The help names every command, option and status, and goes to standard output.
-gives 0 --help
-check "help says nothing on standard error" [ ! -s err ]
-for word in new check list add read revise remove rekey --old-key --new-key --key --copies --wait; do
-    check "help tells of $word" grep -q -e "^  $word " out
-done
-for status in 0 1 2 3 4 5 6 7 8 9 10 11 12 13 14 100 101 102 103 104 105 106; do
-    check "help tells of status $status" grep -q "^ *$status  " out
-done
-gives 0 add --help
