@@ -16,7 +16,10 @@
 #include "lagunedo.h"
 
 /* One byte more than the library takes (01, numbers 2 and 3). */
-enum { MESSAGE_ROOM = 65536 + 1, DATA_ROOM = 1024 + 1 };
+enum {
+    MESSAGE_ROOM = LAGUNEDO_MESSAGE_MOST + 1,
+    DATA_ROOM = LAGUNEDO_DATA_MOST + 1
+};
 
 typedef uint32_t transform(const uint8_t *, size_t, const uint8_t *, size_t,
                            uint8_t *, size_t);
