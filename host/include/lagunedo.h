@@ -84,10 +84,10 @@ extern "C" {
  */
 #define LAGUNEDO_REFUSALS(X) \
     X(LAGUNEDO_KEY_LENGTH, 1, \
-      "a key is not 48 or 64 bytes (AES alone: 16 or 32)") \
+      "a key is not 48 or 64 bytes long (AES alone: 16 or 32)") \
     X(LAGUNEDO_MESSAGE_LENGTH, 2, \
-      "the message is below 16 or above 65,536 bytes (AES alone: not 16)") \
-    X(LAGUNEDO_DATA_LENGTH, 3, "the associated data is above 1,024 bytes") \
+      "a message is below 16 or above 65,536 bytes (AES alone: not 16)") \
+    X(LAGUNEDO_DATA_LENGTH, 3, "associated data is above 1,024 bytes") \
     X(LAGUNEDO_STORE_LENGTH, 4, \
       "the store is not a whole number of records, or over 1,024") \
     X(LAGUNEDO_SHEET_ZERO, 5, "sheet number 0 was asked for") \
@@ -96,7 +96,7 @@ extern "C" {
     X(LAGUNEDO_OTHER_REVISION, 8, \
       "the revision named is not the stored one") \
     X(LAGUNEDO_LAST_REVISION, 9, "the stored revision is 65,535, the last") \
-    X(LAGUNEDO_NO_FREE_SLOT, 10, "no slot is free") \
+    X(LAGUNEDO_NO_FREE_SLOT, 10, "no slot is free: none has sheet number 0") \
     X(LAGUNEDO_SHEET_PRESENT, 11, "the sheet number is already in a slot") \
     X(LAGUNEDO_SLOT_UNSOUND, 12, "the slot found is unsound") \
     X(LAGUNEDO_BUFFER_LENGTH, 13, "the buffer is shorter than the text") \
