@@ -46,7 +46,7 @@ static const char manual[] =
     "message's, 3 the associated data's), 102 for wrong usage, 104 for a file\n"
     "that could not be read or written.\n";
 
-static const char version[] = "eme2 " LAGUNEDO_VERSION "\n";
+static const char version[] = "eme2 (Lagunedo) " LAGUNEDO_VERSION "\n";
 
 static transform *transform_named(const char *word)
 {

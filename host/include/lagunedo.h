@@ -77,10 +77,11 @@ extern "C" {
 /*
  * The numbers returned
  *
- * This table is the one place of their names and meanings: X is given a name,
- * its number and what it means, for one row after the other. 1 to 14 are those
- * of 01, and none changes its meaning. 14 stands in 01's table and is never
- * returned, since deciphering keeps the length.
+ * 1 to 14 are those of 01, and none changes its meaning. 14 is never returned,
+ * since deciphering keeps the length. 0 and 256 are no refusals.
+ *
+ * LAGUNEDO_REFUSALS and LAGUNEDO_NUMBERS are the one table of their names and
+ * meanings: the macro X that they are given gets a row after the other.
  */
 #define LAGUNEDO_REFUSALS(X) \
     X(LAGUNEDO_KEY_LENGTH, 1, \
@@ -102,7 +103,7 @@ extern "C" {
     X(LAGUNEDO_BUFFER_LENGTH, 13, "the buffer is shorter than the text") \
     X(LAGUNEDO_LENGTH_CHANGED, 14, "the text length changed in deciphering")
 
-/* The same with the two numbers that are no refusals. */
+/* These, and the two that are no refusals. */
 #define LAGUNEDO_NUMBERS(X) \
     X(LAGUNEDO_DONE, 0, "done") \
     LAGUNEDO_REFUSALS(X) \

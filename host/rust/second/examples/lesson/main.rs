@@ -42,7 +42,7 @@ fn version() -> &'static str {
 /// What is printed for the words of the command line.
 fn answer(words: &[&str]) -> Result<String, Trouble> {
     match words {
-        ["--version"] => Ok(format!("lesson {}\n", version())),
+        ["--version"] => Ok(format!("lesson (Lagunedo) {}\n", version())),
         ["blocks", length] => blocks::cut(length.parse().map_err(|_| Trouble::Usage)?),
         ["error", name, key] => error(name, key, None),
         ["error", name, key, "--ad", ad] => error(name, key, Some(ad)),
