@@ -58,5 +58,6 @@ $(HOST_OUT)/example: host/c/example.c $(HOST_HEADER) $(HOST_LIBRARY)
 include host/desk.mk
 include host/install.mk
 include host/lessons.mk
+include host/dist.mk
 include host/fuzz/fuzz.mk
 include host/peers/peers.mk
