@@ -20,6 +20,7 @@ host-archive: $(HOST_OUT)/eme2 lesson-program
 	$(MAKE) --no-print-directory install PREFIX= DESTDIR=$(DIST_TREE) PC_PREFIX='$$$${pcfiledir}/../..'
 	install -m 755 $(HOST_OUT)/eme2 $(DIST_TREE)/bin/lagunedo-eme2
 	install -m 755 $(HOST_OUT)/lesson $(DIST_TREE)/bin/lagunedo-lesson
+	install -m 644 $(HOST_MAN)/lagunedo-eme2.1 $(HOST_MAN)/lagunedo-lesson.1 $(DIST_TREE)/share/man/man1
 	install -d $(DIST_TREE)/lessons $(DIST_DOC)/docs
 	for program in $(DIST_PROGRAMS); do ln -s ../bin/lagunedo-$$program $(DIST_TREE)/lessons/$$program || exit 1; done
 	install -m 644 README.md host/c/example.c $(DIST_DOC)
@@ -29,5 +30,5 @@ host-archive: $(HOST_OUT)/eme2 lesson-program
 	tar -C $(DIST_OUT) --sort=name --owner=0 --group=0 --numeric-owner -czf $(DIST_ARCHIVE) $(DIST_NAME)
 
 host-dist: host-archive
-	@tools/need pkg-config
+	@tools/need pkg-config groff
 	CC='$(CC) $(HOST_CFLAGS)' CXX='$(CXX) $(HOST_CXXFLAGS)' host/dist_test.sh $(DIST_ARCHIVE) $(abspath $(HOST_OUT)) $(LAGUNEDO_VERSION)

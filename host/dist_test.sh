@@ -27,13 +27,18 @@ PKG_CONFIG_PATH=
 export PATH PKG_CONFIG_LIBDIR PKG_CONFIG_PATH
 
 for file in README.txt include/lagunedo.h lib/liblagunedo.a lib/liblagunedo.so "lib/liblagunedo.so.$version" lib/pkgconfig/lagunedo.pc \
-    bin/lagunedo-desk bin/lagunedo-listing bin/lagunedo-eme2 bin/lagunedo-lesson share/man/man3/lagunedo.3 \
+    bin/lagunedo-desk bin/lagunedo-listing bin/lagunedo-eme2 bin/lagunedo-lesson \
+    share/man/man1/lagunedo-listing.1 share/man/man1/lagunedo-eme2.1 share/man/man1/lagunedo-lesson.1 share/man/man3/lagunedo.3 \
     share/doc/lagunedo/README.md share/doc/lagunedo/example.c share/doc/lagunedo/docs/LESSONS.md; do
     check "$file is there" [ -f "$top/$file" ]
 done
 check "every link leads somewhere" [ -z "$(find "$top" -type l ! -exec test -e {} \; -print)" ]
 check "no file names the folder where it was built" [ -z "$(grep -rlF "$(dirname "$here")" "$top")" ]
-check "README.txt is filled in" [ -z "$(sed -n '/@/p' "$top/README.txt")" ]
+check "every version is filled in" [ -z "$(grep -rlF @VERSION@ "$top/README.txt" "$top/share/man" "$top/lib/pkgconfig")" ]
+
+for page in "$top"/share/man/man?/*; do
+    check "groff has nothing to say against ${page##*/}" [ -z "$(groff -man -ww -Tutf8 "$page" 2>&1 >page)" ]
+done
 
 # One version.
 printf '#include <lagunedo.h>\n#include <stdio.h>\nint main(void) { return puts(LAGUNEDO_VERSION) < 0; }\n' >version.c

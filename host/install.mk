@@ -26,18 +26,20 @@ $(HOST_SHARED): $(HOST_LIBRARY) $(HOST_HEADER)
 	$(CC) -shared -Wl,-soname,$(LAGUNEDO_SONAME) -Wl,-z,text -Wl,-z,defs -Wl,-z,now \
 	    -Wl,--whole-archive $(HOST_LIBRARY) -Wl,--no-whole-archive -o $@
 
-# lagunedo.3 is made from the header, and the desk prints its own page.
+# lagunedo.3 is made from the header, the desk prints its own page, and those of the smaller programs stand in host/man.
 HOST_MAN := $(HOST_OUT)/man
 
 man-pages: $(HOST_HEADER) $(HOST_OUT)/desk
 	@mkdir -p $(HOST_MAN)
 	tools/man-page $(HOST_HEADER) >$(HOST_MAN)/lagunedo.3
+	for page in host/man/*.1; do sed 's/@VERSION@/$(LAGUNEDO_VERSION)/' "$$page" >"$(HOST_MAN)/$${page##*/}" || exit 1; done
 	$(HOST_OUT)/desk --man >$(HOST_MAN)/lagunedo-desk.1 2>/dev/null || rm $(HOST_MAN)/lagunedo-desk.1
 
 INSTALL_TO = $(DESTDIR)$(PREFIX)
 INSTALL_HEADERS := $(HOST_HEADER) $(FILE_HEADER)
 INSTALL_LIBRARIES := $(HOST_LIBRARY) $(FILE_LIBRARY)
 INSTALL_LIBS := $(if $(FILE_LIBRARY),-llagunedo_file )-llagunedo
+INSTALL_ARCHIVES := $(patsubst -l%,$${libdir}/lib%.a,$(INSTALL_LIBS))
 
 # The name desk alone is too common for a directory shared with others.
 install: $(INSTALL_HEADERS) $(INSTALL_LIBRARIES) $(HOST_SHARED) $(HOST_OUT)/desk $(LAGUNEDO_LISTING) man-pages
@@ -48,12 +50,14 @@ install: $(INSTALL_HEADERS) $(INSTALL_LIBRARIES) $(HOST_SHARED) $(HOST_OUT)/desk
 	ln -sf $(notdir $(HOST_SHARED)) $(INSTALL_TO)/lib/$(LAGUNEDO_SONAME)
 	ln -sf $(LAGUNEDO_SONAME) $(INSTALL_TO)/lib/liblagunedo.so
 	sed -e 's|@PREFIX@|$(PC_PREFIX)|' -e 's|@VERSION@|$(LAGUNEDO_VERSION)|' -e 's|@LIBS@|$(INSTALL_LIBS)|' \
+	    -e 's|@ARCHIVES@|$(INSTALL_ARCHIVES)|' \
 	    host/lagunedo.pc.in >$(HOST_OUT)/lagunedo.pc
 	install -m 644 $(HOST_OUT)/lagunedo.pc $(INSTALL_TO)/lib/pkgconfig
 	install -m 755 $(HOST_OUT)/desk $(INSTALL_TO)/bin/lagunedo-desk
 	install -m 755 $(LAGUNEDO_LISTING) $(INSTALL_TO)/bin/lagunedo-listing
 	install -m 644 $(HOST_MAN)/lagunedo.3 $(INSTALL_TO)/share/man/man3
-	for page in $(HOST_MAN)/*.1; do [ ! -f "$$page" ] || install -m 644 "$$page" $(INSTALL_TO)/share/man/man1 || exit 1; done
+	install -m 644 $(HOST_MAN)/lagunedo-listing.1 $(INSTALL_TO)/share/man/man1
+	[ ! -f $(HOST_MAN)/lagunedo-desk.1 ] || install -m 644 $(HOST_MAN)/lagunedo-desk.1 $(INSTALL_TO)/share/man/man1
 
 $(LAGUNEDO_LISTING):
 	@echo "$@ is not there: make builds it" >&2; exit 1

@@ -18,7 +18,8 @@ desk_page=
 [ ! -f "$here/c/desk/man.c" ] || desk_page=share/man/man1/lagunedo-desk.1
 
 installed=$(printf '%s\n' bin/lagunedo-desk bin/lagunedo-listing include/lagunedo.h $file_header lib/liblagunedo.a \
-    "lib/liblagunedo.so.$version" $file_library lib/pkgconfig/lagunedo.pc $desk_page share/man/man3/lagunedo.3)
+    "lib/liblagunedo.so.$version" $file_library lib/pkgconfig/lagunedo.pc $desk_page share/man/man1/lagunedo-listing.1 \
+    share/man/man3/lagunedo.3)
 
 files_below() { # DIRECTORY
     (cd "$1" && find . -type f | sed 's|^\./||' | LC_ALL=C sort)
@@ -63,7 +64,7 @@ soname=liblagunedo.so.${version%%.*}
 check "the version is $version" [ "$(flags --modversion)" = "$version" ]
 example_runs shared $(flags --libs)
 check "it asks for $soname" [ "$(needs "$work/example")" = "$soname libc.so.6 " ]
-example_runs static "$(flags --variable=archive)"
+example_runs static $(flags --variable=archives)
 check "it asks for no library of ours" [ "$(needs "$work/example")" = "libc.so.6 " ]
 check "the header is compiled as C++" $CXX $(flags --cflags) -c -o "$work/header.o" "$here/c/header.cpp"
 
