@@ -6,6 +6,7 @@
 //! - [`check`], [`read`], [`add`], [`revise`], [`remove`]: a store of sheets
 //! - [`step`], [`job_step`]: its rekeying
 //! - [`raw`]: all of them as C has them
+//! - [`Refusal`]: why a call did nothing; [`RECORD_SIZE`] and the other sizes
 //!
 //! A store is bytes that the caller lends; all zeros is one whose slots are
 //! free. This is the run that a retried job once spoiled, as it goes here:
