@@ -5,8 +5,9 @@
 # make bench  the benchmark (times depend on the machine; it is no test)
 # make fuzz   the fuzz target under libFuzzer, FUZZ_RUNS scripts of calls (host/fuzz/fuzz.mk)
 # make peers  the benchmark beside other people's AES, written into docs/SPEED.md and docs/speed.svg
-# make install PREFIX=/usr/local  puts header, library, pkg-config file, desk and listing in place, after make
-.PHONY: all check test bench fuzz peers libraries listing
+# make dist   target/dist/lagunedo-VERSION-x86_64-linux.tar.gz, for machines without the kit (host/dist.mk)
+# make install PREFIX=/usr/local  puts headers, libraries, pkg-config file, desk, listing and man pages in place, after make
+.PHONY: all check test bench fuzz peers dist libraries listing
 
 all:
 	@tools/need rt cc
@@ -34,6 +35,9 @@ bench: libraries
 
 peers: libraries
 	@$(MAKE) --no-print-directory host-peers
+
+dist: libraries listing
+	@$(MAKE) --no-print-directory host-archive
 
 fuzz: libraries
 	@tools/need clang libfuzzer

@@ -11,14 +11,19 @@ HOST_OUT := target/host
 HOST_LIBRARY := $(LAGUNEDO_STATICLIB)/liblagunedo.a
 HOST_HEADER := host/include/lagunedo.h
 HOST_CFLAGS := -std=c99 -O2 -Wall -Wextra -Wpedantic -Wconversion -Werror
-HOST_CXXFLAGS := -std=c++11 -O2 -Wall -Wextra -Werror
+HOST_CXXFLAGS := -std=c++11 -O2 -Wall -Wextra -Wpedantic -Werror
 HOST_CARGO := CARGO_TARGET_DIR=target/cargo cargo
 HOST_CARGO_FLAGS := --release --offline --locked --manifest-path host/rust/Cargo.toml
 
-.PHONY: host-c host-example host-rust host-trace host-bench
+.PHONY: host-c host-header host-example host-rust host-trace host-bench
 
-host-c: $(HOST_OUT)/test $(HOST_OUT)/header.o
+host-c: $(HOST_OUT)/test host-header
 	$(HOST_OUT)/test
+
+# The versions of C and C++ that the header says it needs, and later ones: compiled only, and nothing is warned of.
+host-header:
+	for std in c99 c11 c17; do $(CC) $(HOST_CFLAGS) -std=$$std -Ihost/include -fsyntax-only host/c/example.c || exit 1; done
+	for std in c++11 c++14 c++17 c++20; do $(CXX) $(HOST_CXXFLAGS) -std=$$std -Ihost/include -fsyntax-only host/c/header.cpp || exit 1; done
 
 host-example: $(HOST_OUT)/example
 	$(HOST_OUT)/example
@@ -50,13 +55,9 @@ $(HOST_OUT)/example: host/c/example.c $(HOST_HEADER) $(HOST_LIBRARY)
 	@mkdir -p $(HOST_OUT)
 	$(CC) $(HOST_CFLAGS) -Ihost/include -o $@ $< $(HOST_LIBRARY)
 
-# Compiled only: it shows that the header is usable from C++.
-$(HOST_OUT)/header.o: host/c/header.cpp $(HOST_HEADER)
-	@mkdir -p $(HOST_OUT)
-	$(CXX) $(HOST_CXXFLAGS) -Ihost/include -c -o $@ $<
-
 include host/desk.mk
 include host/install.mk
 include host/lessons.mk
+include host/dist.mk
 include host/fuzz/fuzz.mk
 include host/peers/peers.mk

@@ -5,6 +5,7 @@
 
 host-lessons: host-eme2 $(HOST_OUT)/desk lesson-program
 	tools/made-again
+	tools/numbers
 	tools/lessons
 
 host-eme2: $(HOST_OUT)/eme2

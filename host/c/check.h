@@ -38,5 +38,6 @@ void test_store(void);
 void test_refusals(void);
 void test_job(void);
 void test_stack(void);
+void test_numbers(void);
 
 #endif

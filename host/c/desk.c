@@ -19,7 +19,6 @@
 #include "desk/man.h"
 #include "desk/say.h"
 #include "desk/status.h"
-#include "desk/version.h"
 
 /*
  * Were one of the three standard streams closed, the next file opened would

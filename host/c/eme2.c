@@ -17,7 +17,10 @@
 #include "lagunedo.h"
 
 /* One byte more than the library takes (01, numbers 2 and 3). */
-enum { MESSAGE_ROOM = 65536 + 1, DATA_ROOM = 1024 + 1 };
+enum {
+    MESSAGE_ROOM = LAGUNEDO_MESSAGE_MOST + 1,
+    DATA_ROOM = LAGUNEDO_DATA_MOST + 1
+};
 
 typedef uint32_t transform(const uint8_t *, size_t, const uint8_t *, size_t,
                            uint8_t *, size_t);
@@ -29,6 +32,7 @@ struct request {
 
 static const char manual[] =
     "usage: eme2 encipher|decipher KEYFILE [--ad FILE] <MESSAGE >RESULT\n"
+    "       eme2 --help|--version\n"
     "\n"
     "Enciphers or deciphers one message with EME2-AES, byte for byte.\n"
     "\n"
@@ -42,6 +46,8 @@ static const char manual[] =
     "exit status: 0, a refusal of the library (1 the key's length, 2 the\n"
     "message's, 3 the associated data's), 102 for wrong usage, 104 for a file\n"
     "that could not be read or written.\n";
+
+static const char version[] = "eme2 (Lagunedo) " LAGUNEDO_VERSION "\n";
 
 static transform *transform_named(const char *word)
 {
@@ -96,16 +102,25 @@ static int serve(const struct request *request)
                                    : refused(number);
 }
 
+/* What --help and --version print; NULL for any other word. */
+static const char *told(const char *word)
+{
+    if (strcmp(word, "--help") == 0)
+        return manual;
+    return strcmp(word, "--version") == 0 ? version : NULL;
+}
+
 int main(int argc, char **argv)
 {
     struct request request;
+    const char *text = argc == 2 ? told(argv[1]) : NULL;
     int status;
 
     if (argc < 1)
         return DESK_USAGE;
     say_as(argv[0]);
-    if (argc == 2 && strcmp(argv[1], "--help") == 0)
-        return result_write((const uint8_t *)manual, sizeof manual - 1);
+    if (text != NULL)
+        return result_write((const uint8_t *)text, strlen(text));
     status = request_read(&request, argc, argv);
     return status == DESK_DONE ? serve(&request) : status;
 }

@@ -84,4 +84,8 @@ gives 104 encipher . <message
 check "a full disk is told" [ $? -eq 104 ]
 gives 0 --help
 check "the help says how it is used" grep -q '^usage: eme2 ' out
+version=$(sed -n 's/^#define LAGUNEDO_VERSION "\(.*\)"$/\1/p' "$here/../include/lagunedo.h")
+gives 0 --version
+check "the version is the header's, $version" [ "$(cat out)" = "eme2 (Lagunedo) $version" ]
+gives 102 --version more
 all_passed eme2

@@ -17,6 +17,16 @@ uint32_t header_from_cpp(const uint8_t *key, uint8_t *block)
     return lagunedo_aes_decipher(nullptr, 0, block, 16);
 }
 
+// The names and the sizes.
+const char *words_from_cpp(uint32_t number)
+{
+    static_assert(LAGUNEDO_EME2_KEY_128 < LAGUNEDO_EME2_KEY_256,
+                  "sizes are constants");
+    return number == LAGUNEDO_DONE ? LAGUNEDO_VERSION
+           : number == LAGUNEDO_FAULT ? lagunedo_name(number)
+                                      : lagunedo_meaning(number);
+}
+
 uint32_t eme2_from_cpp(const uint8_t *key, const uint8_t *lead,
                        uint8_t *message)
 {

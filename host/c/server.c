@@ -22,7 +22,7 @@ enum { ROOM = LAGUNEDO_SLOT_LIMIT * LAGUNEDO_RECORD_SIZE + 1 };
 
 struct key {
     size_t length;
-    uint8_t bytes[64 + 1];
+    uint8_t bytes[LAGUNEDO_EME2_KEY_256 + 1];
 };
 
 static int key_read(struct key *key, const char *path)

@@ -1,7 +1,7 @@
 /*
  * How much stack the calls use. Each runs on a stack of its own, filled with
- * one byte before: what it has changed of it, it has used. The swap to that
- * stack and back is counted with it.
+ * one byte before: what it has changed of it, it has used, and that is at most
+ * what the header says. The swap to that stack and back is not counted.
  */
 
 #define _XOPEN_SOURCE 700
@@ -13,11 +13,11 @@
 #include "check.h"
 #include "lagunedo.h"
 
-enum { STACK = 1 << 18, UNUSED = 0xa5, MOST = 8 * 1024 };
+enum { STACK = 1 << 18, UNUSED = 0xa5 };
 enum { STORE = LAGUNEDO_SLOT_LIMIT * LAGUNEDO_RECORD_SIZE };
 
-static uint8_t stack[STACK], sheets[STORE], message[65536], text[2096];
-static uint8_t keys[2][64], lead[16];
+static uint8_t stack[STACK], sheets[STORE], text[LAGUNEDO_TEXT_MOST];
+static uint8_t message[LAGUNEDO_MESSAGE_MOST], keys[2][64], lead[16];
 static uint32_t number, values[6];
 static uint64_t place;
 static ucontext_t here, there;
@@ -39,6 +39,16 @@ static size_t used_by(void (*call)(void))
 }
 
 static void idle(void) { number = 0; }
+
+static void aes_encipher(void)
+{
+    number = lagunedo_aes_encipher(keys[1], 32, message, 16);
+}
+
+static void aes_decipher(void)
+{
+    number = lagunedo_aes_decipher(keys[1], 32, message, 16);
+}
 
 static void encipher(void)
 {
@@ -83,25 +93,41 @@ static void step(void)
                            &place, &values[0]);
 }
 
+static void job_step(void)
+{
+    struct lagunedo_job job = { 0 };
+
+    number = lagunedo_job_step(&job, keys[0], 48, keys[1], 64, sheets,
+                               sizeof sheets, &values[0]);
+}
+
 static void remove_sheet(void)
 {
     number = lagunedo_remove(sheets, sizeof sheets, 7);
 }
 
-/* A step that converts: the sheet in slot 0 is marked clear first. */
+/* Steps that convert: the sheet in slot 0 is marked old key first. */
 static void convert(void)
 {
-    sheets[6] = LAGUNEDO_MARK_CLEAR;
+    sheets[6] = LAGUNEDO_MARK_OLD_KEY;
     step();
+}
+
+static void job_convert(void)
+{
+    sheets[6] = LAGUNEDO_MARK_OLD_KEY;
+    job_step();
 }
 
 static const struct {
     const char *name;
     void (*call)(void);
 } calls[] = {
+    { "aes encipher", aes_encipher }, { "aes decipher", aes_decipher },
     { "encipher", encipher }, { "decipher", decipher }, { "add", add },
     { "read", read },         { "revise", revise },     { "check", check },
     { "step", step },         { "converting step", convert },
+    { "job step", job_step }, { "converting job step", job_convert },
     { "remove", remove_sheet }
 };
 
@@ -117,7 +143,7 @@ void test_stack(void)
         if (!counted(number == LAGUNEDO_DONE))
             fprintf(stderr, "stack: %s answers %u\n", calls[i].name,
                     (unsigned)number);
-        if (!counted(used <= MOST))
+        if (!counted(used <= LAGUNEDO_STACK_MOST))
             fprintf(stderr, "stack: %s uses %lu bytes\n", calls[i].name,
                     (unsigned long)used);
         most = used > most ? used : most;

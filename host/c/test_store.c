@@ -13,46 +13,6 @@ static const size_t key_lengths[4][2] = {
     { 48, 48 }, { 48, 64 }, { 64, 48 }, { 64, 64 }
 };
 
-static void numbers(void)
-{
-    static const uint32_t table[][2] = {
-        { LAGUNEDO_DONE, 0 },
-        { LAGUNEDO_KEY_LENGTH, 1 },
-        { LAGUNEDO_MESSAGE_LENGTH, 2 },
-        { LAGUNEDO_DATA_LENGTH, 3 },
-        { LAGUNEDO_STORE_LENGTH, 4 },
-        { LAGUNEDO_SHEET_ZERO, 5 },
-        { LAGUNEDO_TEXT_LENGTH, 6 },
-        { LAGUNEDO_NO_SHEET, 7 },
-        { LAGUNEDO_OTHER_REVISION, 8 },
-        { LAGUNEDO_LAST_REVISION, 9 },
-        { LAGUNEDO_NO_FREE_SLOT, 10 },
-        { LAGUNEDO_SHEET_PRESENT, 11 },
-        { LAGUNEDO_SLOT_UNSOUND, 12 },
-        { LAGUNEDO_BUFFER_LENGTH, 13 },
-        { LAGUNEDO_LENGTH_CHANGED, 14 },
-        { LAGUNEDO_FAULT, 256 },
-        { LAGUNEDO_STEP_DONE, 0 },
-        { LAGUNEDO_STEP_FREE, 1 },
-        { LAGUNEDO_STEP_DAMAGED, 2 },
-        { LAGUNEDO_STEP_ALREADY, 3 },
-        { LAGUNEDO_STEP_CONVERTED, 4 },
-        { LAGUNEDO_MARK_CLEAR, 0 },
-        { LAGUNEDO_MARK_OLD_KEY, 1 },
-        { LAGUNEDO_MARK_NEW_KEY, 2 },
-        { LAGUNEDO_RECORD_SIZE, 2112 },
-        { LAGUNEDO_LEAD_SIZE, 16 },
-        { LAGUNEDO_SLOT_LIMIT, 1024 },
-        { LAGUNEDO_TEXT_LEAST, 16 },
-        { LAGUNEDO_TEXT_MOST, 2096 }
-    };
-    struct call none = call_of(CHECK);
-    size_t i;
-
-    for (i = 0; i < sizeof table / sizeof table[0]; i++)
-        call_check(table[i][0] == table[i][1], "the header's numbers", &none);
-}
-
 static void want_counts(uint32_t used, uint32_t free_slots, uint32_t clear,
                         uint32_t old_key, uint32_t new_key)
 {
@@ -797,7 +757,6 @@ void test_store(void)
     uint8_t mark;
     size_t i;
 
-    numbers();
     listed();
     known();
     for (i = 0; i < 8; i++)

@@ -4,7 +4,11 @@
  * This header is the manual. It holds AES-128 and AES-256, one block at a
  * time, as FIPS 197 defines them; EME2-AES, which enciphers whole messages,
  * as source document 000 defines it; and the sheet store with its rekeying
- * job, as 01 defines them.
+ * job, as 01 defines them. 000 is "The EME2-AES Transform", and 01 "The scope
+ * of work and its rules".
+ *
+ * It needs C99 or C++11, or a later version of either, and x86-64 Linux, for
+ * which the library is compiled.
  *
  *
  * What holds for every call
@@ -26,10 +30,13 @@
  * LAGUNEDO_FAULT, with which lagunedo_check names a slot.
  *
  * A call keeps no state and no pointer to lent memory after it returns, and
- * allocates nothing. It may run in several threads at once, provided that no
- * thread writes to a buffer that another is using; threads may share a key.
- * So calls that write to a store run one at a time on that store, with no
- * other call on it meanwhile, and the host sees to that.
+ * allocates nothing. It takes at most LAGUNEDO_STACK_MOST bytes of stack,
+ * whatever the lengths; that is measured by the tests, and not proved.
+ *
+ * A call may run in several threads at once, provided that no thread writes
+ * to a buffer that another is using; threads may share a key. So calls that
+ * write to a store run one at a time on that store, with no other call on it
+ * meanwhile, and the host sees to that.
  *
  * A server that has lost an answer cannot tell whether its call had run, and
  * may make the same call again. "Made again" below says what it then gets if
@@ -65,48 +72,85 @@
 extern "C" {
 #endif
 
+/* The version of header, library and programs, and this is its one place. */
+#define LAGUNEDO_VERSION "0.1.0"
+
 /*
- * The numbers returned. 1 to 14 are those of 01, and none changes its meaning.
+ * The numbers returned
  *
- * LAGUNEDO_DONE            the call did its work
- * LAGUNEDO_KEY_LENGTH      a key has a length that the call does not take
- * LAGUNEDO_MESSAGE_LENGTH  the message has a length that the call does not
- *                          take; for AES alone the message is the block
- * LAGUNEDO_DATA_LENGTH     the associated data is longer than the call takes
- * LAGUNEDO_STORE_LENGTH    the store is not a whole number of records, or has
- *                          more than 1,024
- * LAGUNEDO_SHEET_ZERO      sheet number 0 was asked for
- * LAGUNEDO_TEXT_LENGTH     the text is below 16 or above 2,096 bytes
- * LAGUNEDO_NO_SHEET        no slot has the sheet number
- * LAGUNEDO_OTHER_REVISION  the revision named is not the stored one
- * LAGUNEDO_LAST_REVISION   the stored revision is 65,535
- * LAGUNEDO_NO_FREE_SLOT    no slot has sheet number 0
- * LAGUNEDO_SHEET_PRESENT   the sheet number is already in a slot
- * LAGUNEDO_SLOT_UNSOUND    the slot found is unsound
- * LAGUNEDO_BUFFER_LENGTH   the lent buffer is shorter than the text
- * LAGUNEDO_LENGTH_CHANGED  the text length changed in deciphering; it stands
- *                          in 01's table and is never returned, since
- *                          deciphering keeps the length
+ * 1 to 14 are those of 01, and none changes its meaning. 14 is never returned,
+ * since deciphering keeps the length. 0 and 256 are no refusals.
  *
- * LAGUNEDO_FAULT           no refusal: lagunedo_check found a faulty slot
+ * LAGUNEDO_REFUSALS and LAGUNEDO_NUMBERS are the one table of their names and
+ * meanings: the macro X that they are given gets a row after the other.
  */
-enum lagunedo_number {
-    LAGUNEDO_DONE = 0,
-    LAGUNEDO_KEY_LENGTH = 1,
-    LAGUNEDO_MESSAGE_LENGTH = 2,
-    LAGUNEDO_DATA_LENGTH = 3,
-    LAGUNEDO_STORE_LENGTH = 4,
-    LAGUNEDO_SHEET_ZERO = 5,
-    LAGUNEDO_TEXT_LENGTH = 6,
-    LAGUNEDO_NO_SHEET = 7,
-    LAGUNEDO_OTHER_REVISION = 8,
-    LAGUNEDO_LAST_REVISION = 9,
-    LAGUNEDO_NO_FREE_SLOT = 10,
-    LAGUNEDO_SHEET_PRESENT = 11,
-    LAGUNEDO_SLOT_UNSOUND = 12,
-    LAGUNEDO_BUFFER_LENGTH = 13,
-    LAGUNEDO_LENGTH_CHANGED = 14,
-    LAGUNEDO_FAULT = 256
+#define LAGUNEDO_REFUSALS(X) \
+    X(LAGUNEDO_KEY_LENGTH, 1, \
+      "a key is not 48 or 64 bytes long (AES alone: 16 or 32)") \
+    X(LAGUNEDO_MESSAGE_LENGTH, 2, \
+      "a message is below 16 or above 65,536 bytes (AES alone: not 16)") \
+    X(LAGUNEDO_DATA_LENGTH, 3, "associated data is above 1,024 bytes") \
+    X(LAGUNEDO_STORE_LENGTH, 4, \
+      "the store is not a whole number of records, or over 1,024") \
+    X(LAGUNEDO_SHEET_ZERO, 5, "sheet number 0 was asked for") \
+    X(LAGUNEDO_TEXT_LENGTH, 6, "the text is below 16 or above 2,096 bytes") \
+    X(LAGUNEDO_NO_SHEET, 7, "no slot has the sheet number") \
+    X(LAGUNEDO_OTHER_REVISION, 8, \
+      "the revision named is not the stored one") \
+    X(LAGUNEDO_LAST_REVISION, 9, "the stored revision is 65,535, the last") \
+    X(LAGUNEDO_NO_FREE_SLOT, 10, "no slot is free: none has sheet number 0") \
+    X(LAGUNEDO_SHEET_PRESENT, 11, "the sheet number is already in a slot") \
+    X(LAGUNEDO_SLOT_UNSOUND, 12, "the slot found is unsound") \
+    X(LAGUNEDO_BUFFER_LENGTH, 13, "the buffer is shorter than the text") \
+    X(LAGUNEDO_LENGTH_CHANGED, 14, "the text length changed in deciphering")
+
+/* These, and the two that are no refusals. */
+#define LAGUNEDO_NUMBERS(X) \
+    X(LAGUNEDO_DONE, 0, "done") \
+    LAGUNEDO_REFUSALS(X) \
+    X(LAGUNEDO_FAULT, 256, "a slot of the store is faulty")
+
+#define LAGUNEDO_NUMBER_VALUE(name, number, meaning) name = number,
+#define LAGUNEDO_NUMBER_NAME(name, number, meaning) case number: return #name;
+#define LAGUNEDO_NUMBER_MEANING(name, number, meaning) \
+    case number: return meaning;
+
+enum lagunedo_number { LAGUNEDO_NUMBERS(LAGUNEDO_NUMBER_VALUE) };
+
+/* A number's name, as "LAGUNEDO_NO_SHEET", or "?" where it has none. */
+static inline const char *lagunedo_name(uint32_t number)
+{
+    switch (number) {
+    LAGUNEDO_NUMBERS(LAGUNEDO_NUMBER_NAME)
+    default: return "?";
+    }
+}
+
+/* What a number means, in words that follow "refused with 7: ". */
+static inline const char *lagunedo_meaning(uint32_t number)
+{
+    switch (number) {
+    LAGUNEDO_NUMBERS(LAGUNEDO_NUMBER_MEANING)
+    default: return "a number that this library does not return";
+    }
+}
+
+/* The sizes, all in bytes but for the number of slots. */
+enum lagunedo_size {
+    LAGUNEDO_BLOCK_SIZE = 16,
+    LAGUNEDO_AES_KEY_128 = 16, /* of AES alone */
+    LAGUNEDO_AES_KEY_256 = 32,
+    LAGUNEDO_EME2_KEY_128 = 48, /* of EME2-AES and of the store */
+    LAGUNEDO_EME2_KEY_256 = 64,
+    LAGUNEDO_MESSAGE_LEAST = 16,
+    LAGUNEDO_MESSAGE_MOST = 65536,
+    LAGUNEDO_DATA_MOST = 1024,
+    LAGUNEDO_RECORD_SIZE = 2112,
+    LAGUNEDO_LEAD_SIZE = 16,
+    LAGUNEDO_TEXT_LEAST = 16,
+    LAGUNEDO_TEXT_MOST = 2096,
+    LAGUNEDO_SLOT_LIMIT = 1024,
+    LAGUNEDO_STACK_MOST = 8192
 };
 
 /*
@@ -266,15 +310,6 @@ uint32_t lagunedo_eme2_decipher(const uint8_t *key, size_t key_length,
  * the lowest. The calls by sheet number take the lowest, and reach the next
  * only once that is removed. A step goes by its place and converts each.
  */
-enum lagunedo_size {
-    LAGUNEDO_RECORD_SIZE = 2112,
-    LAGUNEDO_LEAD_SIZE = 16,
-    LAGUNEDO_SLOT_LIMIT = 1024,
-    LAGUNEDO_TEXT_LEAST = 16,
-    LAGUNEDO_TEXT_MOST = 2096
-};
-
-/* The marks, byte 6 of a record. */
 enum lagunedo_mark {
     LAGUNEDO_MARK_CLEAR = 0,
     LAGUNEDO_MARK_OLD_KEY = 1,

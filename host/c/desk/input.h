@@ -15,7 +15,7 @@
 #include "lagunedo.h"
 
 enum {
-    KEY_ROOM = 64 + 1,
+    KEY_ROOM = LAGUNEDO_EME2_KEY_256 + 1,
     TEXT_ROOM = LAGUNEDO_TEXT_MOST + 1,
     STORE_ROOM = LAGUNEDO_SLOT_LIMIT * LAGUNEDO_RECORD_SIZE + 1
 };

@@ -7,11 +7,11 @@
 
 #include "command.h"
 #include "help.h"
+#include "lagunedo.h"
 #include "man.h"
 #include "manual.h"
 #include "option.h"
 #include "status.h"
-#include "version.h"
 
 static const char installed[] = "lagunedo-desk";
 

@@ -1,5 +1,6 @@
 /*
- * The one table of the numbers with which desk ends and what they mean.
+ * The one table of the numbers with which desk ends and what they mean. Those
+ * of the library are the rows of the header's own table.
  */
 
 #include <stddef.h>
@@ -7,27 +8,14 @@
 #include "lagunedo.h"
 #include "status.h"
 
+#define ROW(name, number, meaning) { name, meaning },
+
 static const struct {
     int status;
     const char *meaning;
 } statuses[] = {
     { DESK_DONE, "done" },
-    { LAGUNEDO_KEY_LENGTH, "a key is not 48 or 64 bytes long" },
-    { LAGUNEDO_MESSAGE_LENGTH,
-      "a message is below 16 or above 65,536 bytes" },
-    { LAGUNEDO_DATA_LENGTH, "associated data is above 1,024 bytes" },
-    { LAGUNEDO_STORE_LENGTH,
-      "the store is not a whole number of records, or over 1,024" },
-    { LAGUNEDO_SHEET_ZERO, "sheet number 0 was asked for" },
-    { LAGUNEDO_TEXT_LENGTH, "the text is below 16 or above 2,096 bytes" },
-    { LAGUNEDO_NO_SHEET, "no slot has the sheet number" },
-    { LAGUNEDO_OTHER_REVISION, "the revision named is not the stored one" },
-    { LAGUNEDO_LAST_REVISION, "the stored revision is 65,535, the last" },
-    { LAGUNEDO_NO_FREE_SLOT, "no slot is free: none has sheet number 0" },
-    { LAGUNEDO_SHEET_PRESENT, "the sheet number is already in a slot" },
-    { LAGUNEDO_SLOT_UNSOUND, "the slot found is unsound" },
-    { LAGUNEDO_BUFFER_LENGTH, "the buffer is shorter than the text" },
-    { LAGUNEDO_LENGTH_CHANGED, "the text length changed in deciphering" },
+    LAGUNEDO_REFUSALS(ROW)
     { DESK_FAULTY, "the store is faulty; the lowest faulty slot is named" },
     { DESK_DAMAGED, "rekeyed, but damaged slots were kept as they were" },
     { DESK_USAGE, "wrong usage" },

@@ -35,7 +35,7 @@ pub struct Job {
 /// use lagunedo::{step, Outcome};
 ///
 /// let (old, new) = ([1; 48], [2; 48]);
-/// let mut store = vec![0; 2_112];
+/// let mut store = vec![0; lagunedo::RECORD_SIZE];
 /// let mut place = 0;
 /// assert_eq!(step(&old, &new, &mut store, &mut place), Ok(Outcome::Free));
 /// assert_eq!(step(&old, &new, &mut store, &mut place), Ok(Outcome::Done));
@@ -44,8 +44,8 @@ pub struct Job {
 ///
 /// # Errors
 ///
-/// [`Refusal::KEY_LENGTH`] where one of the two keys, which may differ in
-/// length, is neither 48 nor 64 bytes, then [`Refusal::STORE_LENGTH`]; the
+/// [`Refusal::KeyLength`] where one of the two keys, which may differ in
+/// length, is neither 48 nor 64 bytes, then [`Refusal::StoreLength`]; the
 /// store and the place are then as they were.
 pub fn step(
     old_key: &[u8],
@@ -80,7 +80,7 @@ pub fn step(
 ///
 /// // Sheet 305 at revision 2, in clear: the lead, then the text.
 /// let (old, new) = ([1; 48], [2; 64]);
-/// let mut store = vec![0; 2_112];
+/// let mut store = vec![0; lagunedo::RECORD_SIZE];
 /// store[..10].copy_from_slice(&[0x31, 0x01, 0, 0, 2, 0, 0, 0, 16, 0]);
 /// store[16..32].copy_from_slice(b"PRESS 4 HOLD 5AM");
 ///

@@ -6,6 +6,7 @@
 //! - [`check`], [`read`], [`add`], [`revise`], [`remove`]: a store of sheets
 //! - [`step`], [`job_step`]: its rekeying
 //! - [`raw`]: all of them as C has them
+//! - [`Refusal`]: why a call did nothing; [`RECORD_SIZE`] and the other sizes
 //!
 //! A store is bytes that the caller lends; all zeros is one whose slots are
 //! free. This is the run that a retried job once spoiled, as it goes here:
@@ -14,11 +15,11 @@
 //! use lagunedo::{add, check, read, revise, Checked, Refusal};
 //!
 //! let (old, new) = ([1; 48], [2; 64]);
-//! let mut store = vec![0; 2 * 2_112];
+//! let mut store = vec![0; 2 * lagunedo::RECORD_SIZE];
 //! assert_eq!(add(&old, &new, &mut store, 305, b"PRESS 4 HOLD 5AM"), Ok(1));
 //!
 //! // The operator reads revision 1 and revises it; the answer gets lost.
-//! let mut text = [0; 2_096];
+//! let mut text = [0; lagunedo::TEXT_MOST];
 //! let found = read(&old, &new, &store, 305, &mut text)?;
 //! assert_eq!(&text[..found.length as usize], b"PRESS 4 HOLD 5AM");
 //! let better = b"PRESS 2 HOLD 6AM";
@@ -27,7 +28,7 @@
 //! // Made again, the same call is refused with 8, and nothing changes.
 //! let before = store.clone();
 //! let again = revise(&old, &new, &mut store, 305, found.revision, better);
-//! assert_eq!(again, Err(Refusal::OTHER_REVISION));
+//! assert_eq!(again, Err(Refusal::OtherRevision));
 //! assert_eq!(store, before);
 //!
 //! let Checked::Sound(counts) = check(&store)? else {
@@ -40,6 +41,7 @@
 mod job;
 pub mod raw;
 mod refusal;
+mod sizes;
 mod store;
 
 pub use job::{job_step, step, Job, Outcome};
@@ -48,7 +50,8 @@ use raw::{
 };
 use refusal::answer;
 pub use refusal::Refusal;
-pub use store::{add, check, read, remove, revise, Checked, Counts, Found, FAULTY};
+pub use sizes::*;
+pub use store::{add, check, read, remove, revise, Checked, Counts, Found, FAULT};
 
 /// Enciphers one block in place with AES-128 (a key of 16 bytes) or AES-256
 /// (one of 32).
@@ -61,14 +64,14 @@ pub use store::{add, check, read, remove, revise, Checked, Counts, Found, FAULTY
 /// assert_eq!(block[..4], [0x69, 0xc4, 0xe0, 0xd8]);
 ///
 /// let refused = lagunedo::aes_encipher(&key[1..], &mut block);
-/// assert_eq!(refused, Err(lagunedo::Refusal::KEY_LENGTH));
+/// assert_eq!(refused, Err(lagunedo::Refusal::KeyLength));
 /// # Ok::<(), lagunedo::Refusal>(())
 /// ```
 ///
 /// # Errors
 ///
-/// [`Refusal::KEY_LENGTH`] where the key is neither 16 nor 32 bytes, then
-/// [`Refusal::MESSAGE_LENGTH`] where the block is not 16; the block is then
+/// [`Refusal::KeyLength`] where the key is neither 16 nor 32 bytes, then
+/// [`Refusal::MessageLength`] where the block is not 16; the block is then
 /// as it was.
 pub fn aes_encipher(key: &[u8], block: &mut [u8]) -> Result<(), Refusal> {
     // SAFETY: the call takes slices of any length and requires nothing of
@@ -114,15 +117,15 @@ pub fn aes_decipher(key: &[u8], block: &mut [u8]) -> Result<(), Refusal> {
 ///
 /// // Of several faults the first in order is the answer.
 /// let refused = eme2_encipher(&[7; 47], &[0; 1_025], &mut message[..15]);
-/// assert_eq!(refused, Err(Refusal::KEY_LENGTH));
+/// assert_eq!(refused, Err(Refusal::KeyLength));
 /// # Ok::<(), Refusal>(())
 /// ```
 ///
 /// # Errors
 ///
-/// [`Refusal::KEY_LENGTH`] where the key is neither 48 nor 64 bytes, then
-/// [`Refusal::MESSAGE_LENGTH`] where the message is below 16 bytes or above
-/// 65,536, then [`Refusal::DATA_LENGTH`] where the associated data is above
+/// [`Refusal::KeyLength`] where the key is neither 48 nor 64 bytes, then
+/// [`Refusal::MessageLength`] where the message is below 16 bytes or above
+/// 65,536, then [`Refusal::DataLength`] where the associated data is above
 /// 1,024; the message is then as it was.
 pub fn eme2_encipher(key: &[u8], ad: &[u8], message: &mut [u8]) -> Result<(), Refusal> {
     // SAFETY: as for AES, with a further slice that is only read. It and the

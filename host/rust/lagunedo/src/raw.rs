@@ -51,7 +51,7 @@ extern "C" {
     ) -> u32;
 
     /// [`check`](crate::check): on 0 the five counts are written, on
-    /// [`FAULTY`](crate::FAULTY) the slot, on a refusal nothing.
+    /// [`FAULT`](crate::FAULT) the slot, on a refusal nothing.
     pub fn lagunedo_check(
         store: *const u8,
         store_length: usize,

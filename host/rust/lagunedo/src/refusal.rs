@@ -1,64 +1,97 @@
-//! The numbers of 01, "Numbers returned in place of a result".
+//! The numbers of 01, "Numbers returned in place of a result", under the names
+//! of `lagunedo.h` and with its words. `tests/header.rs` holds them to its
+//! table.
 
 use std::error::Error;
 use std::fmt;
-use std::num::NonZeroU32;
 
-/// Why a call did nothing: its number in 01's table. It is kept as a number,
-/// so that every answer the library can give has its place here.
-#[derive(Clone, Copy, Debug, Eq, Hash, PartialEq)]
-pub struct Refusal(NonZeroU32);
+/// Makes the enum and the two tables from one row a refusal.
+macro_rules! refusals {
+    ($($name:ident = $number:literal, $meaning:literal, $doc:literal;)*) => {
+        /// Why a call did nothing, by its number in 01's table.
+        #[derive(Clone, Copy, Debug, Eq, Hash, PartialEq)]
+        #[repr(u32)]
+        pub enum Refusal {
+            $(#[doc = $doc] $name = $number,)*
+        }
+
+        impl Refusal {
+            /// All of them, in the order of their numbers.
+            pub const ALL: &'static [Self] = &[$(Self::$name),*];
+
+            /// What it means, in the words of `lagunedo_meaning`.
+            #[must_use]
+            pub const fn meaning(self) -> &'static str {
+                match self {
+                    $(Self::$name => $meaning,)*
+                }
+            }
+
+            /// The refusal with a number, if one has it.
+            #[must_use]
+            pub const fn from_number(number: u32) -> Option<Self> {
+                match number {
+                    $($number => Some(Self::$name),)*
+                    _ => None,
+                }
+            }
+        }
+    };
+}
+
+refusals! {
+    KeyLength = 1, "a key is not 48 or 64 bytes long (AES alone: 16 or 32)",
+        "A key given has a length that the call does not take.";
+    MessageLength = 2, "a message is below 16 or above 65,536 bytes (AES alone: not 16)",
+        "The message (for AES alone: the block) has a length that the call does not take.";
+    DataLength = 3, "associated data is above 1,024 bytes",
+        "The associated data is longer than [`DATA_MOST`](crate::DATA_MOST).";
+    StoreLength = 4, "the store is not a whole number of records, or over 1,024",
+        "The store is not a whole number of records, or has more than [`SLOT_LIMIT`](crate::SLOT_LIMIT).";
+    SheetZero = 5, "sheet number 0 was asked for",
+        "Sheet number 0 was asked for, which means a free slot.";
+    TextLength = 6, "the text is below 16 or above 2,096 bytes",
+        "The text is shorter than [`TEXT_LEAST`](crate::TEXT_LEAST) or longer than [`TEXT_MOST`](crate::TEXT_MOST).";
+    NoSheet = 7, "no slot has the sheet number",
+        "No slot has the sheet number.";
+    OtherRevision = 8, "the revision named is not the stored one",
+        "The revision named is not the stored one, as where the sheet was revised since the operator read it.";
+    LastRevision = 9, "the stored revision is 65,535, the last",
+        "The stored revision is 65,535, so there is none after it.";
+    NoFreeSlot = 10, "no slot is free: none has sheet number 0",
+        "No slot is free.";
+    SheetPresent = 11, "the sheet number is already in a slot",
+        "The sheet number is already in a slot.";
+    SlotUnsound = 12, "the slot found is unsound",
+        "The slot found is unsound. It can still be removed.";
+    BufferLength = 13, "the buffer is shorter than the text",
+        "The lent buffer is shorter than the text.";
+    LengthChanged = 14, "the text length changed in deciphering",
+        "The text length changed in deciphering. The number has its place in 01's table, and no call returns it.";
+}
 
 impl Refusal {
-    /// A key given has a length that the call does not take.
-    pub const KEY_LENGTH: Self = Self(NonZeroU32::new(1).unwrap());
-    /// The message (for AES alone: the block) has a length that the call does
-    /// not take.
-    pub const MESSAGE_LENGTH: Self = Self(NonZeroU32::new(2).unwrap());
-    /// The associated data is above 1,024 bytes.
-    pub const DATA_LENGTH: Self = Self(NonZeroU32::new(3).unwrap());
-    /// The store is not a whole number of records of 2,112 bytes, or is over
-    /// 1,024 of them.
-    pub const STORE_LENGTH: Self = Self(NonZeroU32::new(4).unwrap());
-    /// Sheet number 0 was asked for, which means a free slot.
-    pub const SHEET_ZERO: Self = Self(NonZeroU32::new(5).unwrap());
-    /// The text is below 16 or above 2,096 bytes.
-    pub const TEXT_LENGTH: Self = Self(NonZeroU32::new(6).unwrap());
-    /// No slot has the sheet number.
-    pub const NOT_FOUND: Self = Self(NonZeroU32::new(7).unwrap());
-    /// The revision named is not the stored one, as where the sheet was revised
-    /// since the operator read it.
-    pub const OTHER_REVISION: Self = Self(NonZeroU32::new(8).unwrap());
-    /// The stored revision is 65,535, so there is none after it.
-    pub const LAST_REVISION: Self = Self(NonZeroU32::new(9).unwrap());
-    /// No slot is free.
-    pub const FULL: Self = Self(NonZeroU32::new(10).unwrap());
-    /// The sheet number is already in a slot.
-    pub const TAKEN: Self = Self(NonZeroU32::new(11).unwrap());
-    /// The slot found is unsound. It can still be removed.
-    pub const UNSOUND: Self = Self(NonZeroU32::new(12).unwrap());
-    /// The lent buffer is shorter than the text.
-    pub const BUFFER_LENGTH: Self = Self(NonZeroU32::new(13).unwrap());
-    /// The text length changed in deciphering. The number has its place in 01's
-    /// table, and no call returns it.
-    pub const CHANGED_LENGTH: Self = Self(NonZeroU32::new(14).unwrap());
-
     /// The number in 01's table.
     #[must_use]
     pub const fn number(self) -> u32 {
-        self.0.get()
+        self as u32
     }
 }
 
 impl fmt::Display for Refusal {
     fn fmt(&self, f: &mut fmt::Formatter<'_>) -> fmt::Result {
-        write!(f, "refused {}", self.number())
+        write!(f, "refused with {}: {}", self.number(), self.meaning())
     }
 }
 
 impl Error for Refusal {}
 
-/// What a number returned by the library means: 0 is the work done.
+/// What a number returned by the library means: 0 is the work done. There is
+/// no other but [`FAULT`](crate::FAULT), which check takes itself.
 pub fn answer(number: u32) -> Result<(), Refusal> {
-    NonZeroU32::new(number).map_or(Ok(()), |n| Err(Refusal(n)))
+    match (number, Refusal::from_number(number)) {
+        (0, _) => Ok(()),
+        (_, Some(refusal)) => Err(refusal),
+        (_, None) => unreachable!("number {number}"),
+    }
 }

@@ -6,7 +6,7 @@ use crate::Refusal;
 
 /// What the library's check returns where a slot is faulty: an answer, not a
 /// refusal, so it is above 01's numbers.
-pub const FAULTY: u32 = 256;
+pub const FAULT: u32 = 256;
 
 /// How many slots of a sound store are of each kind.
 #[derive(Clone, Copy, Debug, Default, Eq, PartialEq)]
@@ -48,18 +48,18 @@ pub struct Found {
 /// ```
 /// use lagunedo::{check, Checked, Counts};
 ///
-/// let mut store = vec![0; 3 * 2_112];
+/// let mut store = vec![0; 3 * lagunedo::RECORD_SIZE];
 /// let free = Counts { free: 3, ..Counts::default() };
 /// assert_eq!(check(&store), Ok(Checked::Sound(free)));
 ///
 /// // A byte set in a slot whose sheet number is 0.
-/// store[2_112 + 100] = 1;
+/// store[lagunedo::RECORD_SIZE + 100] = 1;
 /// assert_eq!(check(&store), Ok(Checked::Faulty(1)));
 /// ```
 ///
 /// # Errors
 ///
-/// [`Refusal::STORE_LENGTH`].
+/// [`Refusal::StoreLength`].
 pub fn check(store: &[u8]) -> Result<Checked, Refusal> {
     let mut fault = 0;
     let mut counts = Counts::default();
@@ -77,7 +77,7 @@ pub fn check(store: &[u8]) -> Result<Checked, Refusal> {
             &mut counts.new_key,
         )
     };
-    if number == FAULTY {
+    if number == FAULT {
         return Ok(Checked::Faulty(fault));
     }
     answer(number).map(|()| Checked::Sound(counts))
@@ -90,7 +90,7 @@ pub fn check(store: &[u8]) -> Result<Checked, Refusal> {
 /// use lagunedo::{add, read, Refusal};
 ///
 /// let (old, new) = ([1; 48], [2; 48]);
-/// let mut store = vec![0; 2_112];
+/// let mut store = vec![0; lagunedo::RECORD_SIZE];
 /// add(&old, &new, &mut store, 305, b"PRESS 4 HOLD 5AM")?;
 ///
 /// let mut text = [0xff; 20];
@@ -99,17 +99,17 @@ pub fn check(store: &[u8]) -> Result<Checked, Refusal> {
 /// assert_eq!(&text, b"PRESS 4 HOLD 5AM\xff\xff\xff\xff");
 ///
 /// let short = read(&old, &new, &store, 305, &mut text[..15]);
-/// assert_eq!(short, Err(Refusal::BUFFER_LENGTH));
+/// assert_eq!(short, Err(Refusal::BufferLength));
 /// # Ok::<(), Refusal>(())
 /// ```
 ///
 /// # Errors
 ///
-/// In this order: [`Refusal::KEY_LENGTH`] where one of the two keys, which
+/// In this order: [`Refusal::KeyLength`] where one of the two keys, which
 /// may differ in length, is neither 48 nor 64 bytes,
-/// [`Refusal::STORE_LENGTH`], [`Refusal::SHEET_ZERO`],
-/// [`Refusal::NOT_FOUND`], [`Refusal::UNSOUND`], [`Refusal::BUFFER_LENGTH`],
-/// and last [`Refusal::CHANGED_LENGTH`], which never comes about; the buffer
+/// [`Refusal::StoreLength`], [`Refusal::SheetZero`],
+/// [`Refusal::NoSheet`], [`Refusal::SlotUnsound`], [`Refusal::BufferLength`],
+/// and last [`Refusal::LengthChanged`], which never comes about; the buffer
 /// is then as it was. A wrong key of an allowed length is no error.
 pub fn read(
     old_key: &[u8],
@@ -150,21 +150,21 @@ pub fn read(
 /// use lagunedo::{add, Refusal};
 ///
 /// let (old, new) = ([1; 48], [2; 48]);
-/// let mut store = vec![0; 2_112];
+/// let mut store = vec![0; lagunedo::RECORD_SIZE];
 /// assert_eq!(add(&old, &new, &mut store, 305, b"PRESS 4 HOLD 5AM"), Ok(1));
 ///
 /// // Made again it is refused, and so is another where no slot is free.
 /// let again = add(&old, &new, &mut store, 305, b"PRESS 4 HOLD 5AM");
-/// assert_eq!(again, Err(Refusal::TAKEN));
+/// assert_eq!(again, Err(Refusal::SheetPresent));
 /// let another = add(&old, &new, &mut store, 306, b"PRESS 1 AT SEVEN");
-/// assert_eq!(another, Err(Refusal::FULL));
+/// assert_eq!(another, Err(Refusal::NoFreeSlot));
 /// ```
 ///
 /// # Errors
 ///
-/// In this order: [`Refusal::KEY_LENGTH`], [`Refusal::STORE_LENGTH`],
-/// [`Refusal::SHEET_ZERO`], [`Refusal::TEXT_LENGTH`], [`Refusal::TAKEN`],
-/// [`Refusal::FULL`]; the store is then as it was.
+/// In this order: [`Refusal::KeyLength`], [`Refusal::StoreLength`],
+/// [`Refusal::SheetZero`], [`Refusal::TextLength`], [`Refusal::SheetPresent`],
+/// [`Refusal::NoFreeSlot`]; the store is then as it was.
 pub fn add(
     old_key: &[u8],
     new_key: &[u8],
@@ -200,22 +200,22 @@ pub fn add(
 /// use lagunedo::{add, revise, Refusal};
 ///
 /// let (old, new) = ([1; 48], [2; 48]);
-/// let mut store = vec![0; 2_112];
+/// let mut store = vec![0; lagunedo::RECORD_SIZE];
 /// add(&old, &new, &mut store, 305, b"PRESS 4 HOLD 5AM")?;
 ///
 /// // Two operators saw revision 1. The first is accepted, the second not.
 /// let first = revise(&old, &new, &mut store, 305, 1, b"PRESS 2 HOLD 6AM");
 /// let second = revise(&old, &new, &mut store, 305, 1, b"PRESS 3 HOLD 4AM");
-/// assert_eq!((first, second), (Ok(2), Err(Refusal::OTHER_REVISION)));
+/// assert_eq!((first, second), (Ok(2), Err(Refusal::OtherRevision)));
 /// # Ok::<(), Refusal>(())
 /// ```
 ///
 /// # Errors
 ///
-/// In this order: [`Refusal::KEY_LENGTH`], [`Refusal::STORE_LENGTH`],
-/// [`Refusal::SHEET_ZERO`], [`Refusal::TEXT_LENGTH`],
-/// [`Refusal::NOT_FOUND`], [`Refusal::UNSOUND`],
-/// [`Refusal::OTHER_REVISION`], [`Refusal::LAST_REVISION`]; the store is then
+/// In this order: [`Refusal::KeyLength`], [`Refusal::StoreLength`],
+/// [`Refusal::SheetZero`], [`Refusal::TextLength`],
+/// [`Refusal::NoSheet`], [`Refusal::SlotUnsound`],
+/// [`Refusal::OtherRevision`], [`Refusal::LastRevision`]; the store is then
 /// as it was.
 pub fn revise(
     old_key: &[u8],
@@ -251,18 +251,18 @@ pub fn revise(
 /// use lagunedo::{add, remove, Refusal};
 ///
 /// let (old, new) = ([1; 48], [2; 48]);
-/// let mut store = vec![0; 2_112];
+/// let mut store = vec![0; lagunedo::RECORD_SIZE];
 /// add(&old, &new, &mut store, 305, b"PRESS 4 HOLD 5AM")?;
 /// assert_eq!(remove(&mut store, 305), Ok(()));
 /// assert!(store.iter().all(|byte| *byte == 0));
-/// assert_eq!(remove(&mut store, 305), Err(Refusal::NOT_FOUND));
+/// assert_eq!(remove(&mut store, 305), Err(Refusal::NoSheet));
 /// # Ok::<(), Refusal>(())
 /// ```
 ///
 /// # Errors
 ///
-/// In this order: [`Refusal::STORE_LENGTH`], [`Refusal::SHEET_ZERO`],
-/// [`Refusal::NOT_FOUND`]; the store is then as it was.
+/// In this order: [`Refusal::StoreLength`], [`Refusal::SheetZero`],
+/// [`Refusal::NoSheet`]; the store is then as it was.
 pub fn remove(store: &mut [u8], sheet: u32) -> Result<(), Refusal> {
     // SAFETY: the store may be written and is of any length.
     let number = unsafe { lagunedo_remove(store.as_mut_ptr(), store.len(), sheet) };

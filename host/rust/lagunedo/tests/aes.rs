@@ -167,12 +167,9 @@ fn several_threads() {
 #[test]
 fn refusal_carries_the_number() {
     let refusal = aes_encipher(&[], &mut [0; 16]).unwrap_err();
-    assert_eq!(refusal, Refusal::KEY_LENGTH);
-    assert_eq!(
-        (refusal.number(), refusal.to_string()),
-        (1, "refused 1".to_owned())
-    );
+    assert_eq!(refusal, Refusal::KeyLength);
+    assert_eq!(refusal.number(), 1);
     let refusal = aes_decipher(&[0; 16], &mut []).unwrap_err();
-    assert_eq!(refusal, Refusal::MESSAGE_LENGTH);
+    assert_eq!(refusal, Refusal::MessageLength);
     assert_eq!(refusal.number(), 2);
 }

@@ -133,15 +133,14 @@ fn edges() {
 fn refusal_carries_the_number() {
     for call in [eme2_encipher, eme2_decipher] {
         for (lengths, wanted, number) in [
-            ([47, 1_025, 15], Refusal::KEY_LENGTH, 1),
-            ([48, 1_025, 15], Refusal::MESSAGE_LENGTH, 2),
-            ([48, 1_025, 16], Refusal::DATA_LENGTH, 3),
+            ([47, 1_025, 15], Refusal::KeyLength, 1),
+            ([48, 1_025, 15], Refusal::MessageLength, 2),
+            ([48, 1_025, 16], Refusal::DataLength, 3),
         ] {
             let [key, ad, mut message] = lengths.map(|n| vec![0; n]);
             let refusal = call(&key, &ad, &mut message).unwrap_err();
             assert_eq!(refusal, wanted);
             assert_eq!(refusal.number(), number);
-            assert_eq!(refusal.to_string(), format!("refused {number}"));
         }
     }
 }

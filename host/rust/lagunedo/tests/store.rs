@@ -5,7 +5,7 @@
 mod calls;
 mod draw;
 
-use calls::{agree, Memory, What, FAULTY, ORDER, RECORD};
+use calls::{agree, Memory, What, FAULT, ORDER, RECORD};
 use draw::{Draw, Kind, KINDS};
 use std::collections::BTreeMap;
 
@@ -53,7 +53,7 @@ impl Tally {
             let call = draw.call(&mut memory);
             let name = || format!("seed {seed:#x}, {kind:?}, {slots} slots, call {n}");
             let (number, after) = agree(&call, &memory, draw.random.below(256), &name);
-            if number != 0 && number != FAULTY {
+            if number != 0 && number != FAULT {
                 assert!(after == memory, "{}: refused and changed", name());
             }
             let outcome = match (call.what, number) {
@@ -123,7 +123,7 @@ fn small_stores() {
         reached(what, 0, 0);
         numbers.iter().for_each(|number| reached(what, *number, 0));
     }
-    reached(What::Check, FAULTY, 0);
+    reached(What::Check, FAULT, 0);
     (1..=4).for_each(|outcome| reached(What::Step, 0, outcome));
     assert_eq!(named, tally.calls(), "an answer that 01 does not name");
 }
@@ -169,7 +169,7 @@ fn last_slot() {
     beyond.place += 1;
     for (what, memory, number, word, changed) in [
         (What::Check, &before, 0, 0, false),
-        (What::Check, &repeated, FAULTY, LARGEST as u32 - 1, false),
+        (What::Check, &repeated, FAULT, LARGEST as u32 - 1, false),
         (What::Read, &before, 0, 20, false),
         (What::Read, &freed, 7, 0, false),
         (What::Add, &before, 11, 0, false),

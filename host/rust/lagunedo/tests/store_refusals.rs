@@ -4,7 +4,7 @@
 
 mod calls;
 
-use calls::{agree, Call, Memory, What, FAULTY, ORDER, RECORD};
+use calls::{agree, Call, Memory, What, FAULT, ORDER, RECORD};
 use inputs::Random;
 use lagunedo::Refusal;
 
@@ -251,7 +251,7 @@ fn unsound() {
     for slot in [0, 2, 3, 4] {
         for (n, (at, byte)) in UNSOUND.into_iter().enumerate() {
             for (what, wanted) in [
-                (What::Check, FAULTY),
+                (What::Check, FAULT),
                 (What::Read, 12),
                 (What::Revise, 12),
                 (What::Step, 0),
@@ -289,7 +289,7 @@ fn unsound() {
 fn free_but_for_a_byte() {
     for at in [4, 5, 6, 7, 8, 9, 10, 15, 16, 36, 1_000, 2_111] {
         for (what, wanted, word) in [
-            (What::Check, FAULTY, 1),
+            (What::Check, FAULT, 1),
             (What::Step, 0, 1),
             (What::Add, 0, 1),
         ] {
@@ -326,7 +326,7 @@ fn lowest_fault() {
                 let (number, after) = agree(&call, &memory, n as usize, &name);
                 let mut wanted = memory.clone();
                 wanted.words[0] = low as u32;
-                assert_eq!(number, FAULTY, "{}", name());
+                assert_eq!(number, FAULT, "{}", name());
                 assert!(after == wanted, "{}", name());
                 memory.store.push(0);
                 let (number, after) = agree(&call, &memory, n as usize, &name);
@@ -396,18 +396,18 @@ fn last_revision() {
 #[test]
 fn names() {
     let names = [
-        Refusal::STORE_LENGTH,
-        Refusal::SHEET_ZERO,
-        Refusal::TEXT_LENGTH,
-        Refusal::NOT_FOUND,
-        Refusal::OTHER_REVISION,
-        Refusal::LAST_REVISION,
-        Refusal::FULL,
-        Refusal::TAKEN,
-        Refusal::UNSOUND,
-        Refusal::BUFFER_LENGTH,
-        Refusal::CHANGED_LENGTH,
+        Refusal::StoreLength,
+        Refusal::SheetZero,
+        Refusal::TextLength,
+        Refusal::NoSheet,
+        Refusal::OtherRevision,
+        Refusal::LastRevision,
+        Refusal::NoFreeSlot,
+        Refusal::SheetPresent,
+        Refusal::SlotUnsound,
+        Refusal::BufferLength,
+        Refusal::LengthChanged,
     ];
     assert!(names.map(Refusal::number).into_iter().eq(4..=14));
-    assert_eq!(lagunedo::FAULTY, FAULTY);
+    assert_eq!(lagunedo::FAULT, FAULT);
 }

@@ -12,7 +12,7 @@ use std::fmt;
 pub const RECORD: usize = 2_112;
 
 /// What check returns where a slot is faulty.
-pub const FAULTY: u32 = 256;
+pub const FAULT: u32 = 256;
 
 /// The calls.
 #[derive(Clone, Copy, Debug, Eq, Ord, PartialEq, PartialOrd)]

@@ -1,6 +1,6 @@
 //! A call by the safe functions.
 
-use super::{Call, Memory, What, FAULTY};
+use super::{Call, Memory, What, FAULT};
 use lagunedo::{add, check, read, remove, revise, step, Checked, Job, Refusal};
 
 pub fn call(call: &Call, before: &Memory, _: usize) -> (u32, Memory) {
@@ -38,7 +38,7 @@ fn made(call: &Call, memory: &mut Memory) -> Result<u32, Refusal> {
             }
             Checked::Faulty(slot) => {
                 words[0] = slot;
-                return Ok(FAULTY);
+                return Ok(FAULT);
             }
         },
         What::Read => {

@@ -1,6 +1,6 @@
 //! A call by the second implementation.
 
-use super::{Call, Memory, What, FAULTY};
+use super::{Call, Memory, What, FAULT};
 use second::{add, check, read, remove, revise, step, Checked, Keys};
 
 pub fn call(call: &Call, before: &Memory) -> (u32, Memory) {
@@ -27,7 +27,7 @@ fn made(call: &Call, memory: &mut Memory) -> Result<(), u32> {
             }
             Checked::Faulty(slot) => {
                 words[0] = slot;
-                return Err(FAULTY);
+                return Err(FAULT);
             }
         },
         What::Read => {

@@ -37,9 +37,9 @@ pub struct Change {
 impl List {
     pub fn read(&self, number: u32, buffer: &mut [u8]) -> Result<Found, Refusal> {
         asked(number)?;
-        let (_, sheet) = self.found(number).ok_or(Refusal::NOT_FOUND)?;
+        let (_, sheet) = self.found(number).ok_or(Refusal::NoSheet)?;
         let front = buffer.get_mut(..sheet.text.len());
-        let front = front.ok_or(Refusal::BUFFER_LENGTH)?;
+        let front = front.ok_or(Refusal::BufferLength)?;
         front.copy_from_slice(&sheet.text);
         Ok(Found {
             length: sheet.text.len() as u32,
@@ -51,29 +51,29 @@ impl List {
         asked(number)?;
         fits(text)?;
         if self.found(number).is_some() {
-            return Err(Refusal::TAKEN);
+            return Err(Refusal::SheetPresent);
         }
         let lowest = self.places.iter().position(Option::is_none);
-        let place = lowest.ok_or(Refusal::FULL)?;
+        let place = lowest.ok_or(Refusal::NoFreeSlot)?;
         Ok(self.put(place, number, 1, text))
     }
 
     pub fn revise(&mut self, number: u32, seen: u32, text: &[u8]) -> Result<Change, Refusal> {
         asked(number)?;
         fits(text)?;
-        let (place, sheet) = self.found(number).ok_or(Refusal::NOT_FOUND)?;
+        let (place, sheet) = self.found(number).ok_or(Refusal::NoSheet)?;
         if sheet.revision != seen {
-            return Err(Refusal::OTHER_REVISION);
+            return Err(Refusal::OtherRevision);
         }
         if sheet.revision == LAST_REVISION {
-            return Err(Refusal::LAST_REVISION);
+            return Err(Refusal::LastRevision);
         }
         Ok(self.put(place, number, seen + 1, text))
     }
 
     pub fn remove(&mut self, number: u32) -> Result<Change, Refusal> {
         asked(number)?;
-        let (place, _) = self.found(number).ok_or(Refusal::NOT_FOUND)?;
+        let (place, _) = self.found(number).ok_or(Refusal::NoSheet)?;
         self.places[place] = None;
         Ok(Change { place, answer: 0 })
     }
@@ -100,14 +100,14 @@ impl List {
 
 fn asked(number: u32) -> Result<(), Refusal> {
     if number == 0 {
-        return Err(Refusal::SHEET_ZERO);
+        return Err(Refusal::SheetZero);
     }
     Ok(())
 }
 
 fn fits(text: &[u8]) -> Result<(), Refusal> {
     if !(SHORTEST..=LONGEST).contains(&text.len()) {
-        return Err(Refusal::TEXT_LENGTH);
+        return Err(Refusal::TextLength);
     }
     Ok(())
 }

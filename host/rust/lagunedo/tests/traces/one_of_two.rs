@@ -62,7 +62,7 @@ mod tests {
         let mut claim = OneOfTwo::default();
         claim.revised(7, 1, Ok(2));
         claim.removed(8, Ok(0));
-        claim.removed(7, Err(Refusal::NOT_FOUND));
+        claim.removed(7, Err(Refusal::NoSheet));
         claim.revised(7, 1, Ok(2));
     }
 
@@ -72,7 +72,7 @@ mod tests {
     fn accepted_once() {
         let mut claim = OneOfTwo::default();
         claim.revised(7, 1, Ok(2));
-        claim.revised(7, 1, Err(Refusal::OTHER_REVISION));
+        claim.revised(7, 1, Err(Refusal::OtherRevision));
         claim.revised(7, 2, Ok(3));
         claim.revised(8, 1, Ok(2));
         claim.removed(7, Ok(0));

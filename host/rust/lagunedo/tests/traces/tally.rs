@@ -58,7 +58,7 @@ impl Tally {
         self.needed += usize::from(trace.last_slot.needed);
         self.mixed += usize::from(trace.last_slot.mixed());
         let refused = &trace.one_of_two.refused;
-        let number = Refusal::OTHER_REVISION.number();
+        let number = Refusal::OtherRevision.number();
         self.second += refused.get(&number).copied().unwrap_or(0);
         self.anew += trace.one_of_two.anew;
     }

@@ -30,9 +30,19 @@ fn error(name: &str, key: &str, ad: Option<&str>) -> Result<String, Trouble> {
     Ok(format!("error: {words}\n{report}"))
 }
 
+/// The version of library and programs, which stands in the header alone.
+fn version() -> &'static str {
+    let header = include_str!("../../../../include/lagunedo.h");
+    let (_, rest) = header
+        .split_once("#define LAGUNEDO_VERSION \"")
+        .expect("the header has the version");
+    rest.split_once('"').map_or(rest, |(version, _)| version)
+}
+
 /// What is printed for the words of the command line.
 fn answer(words: &[&str]) -> Result<String, Trouble> {
     match words {
+        ["--version"] => Ok(format!("lesson (Lagunedo) {}\n", version())),
         ["blocks", length] => blocks::cut(length.parse().map_err(|_| Trouble::Usage)?),
         ["error", name, key] => error(name, key, None),
         ["error", name, key, "--ad", ad] => error(name, key, Some(ad)),

@@ -5,7 +5,8 @@ use std::io;
 use std::process::ExitCode;
 
 const USAGE: &str = "usage: lesson blocks BYTES
-       lesson error short-block|new-mask|associated-data KEYFILE [--ad FILE] <MESSAGE";
+       lesson error short-block|new-mask|associated-data KEYFILE [--ad FILE] <MESSAGE
+       lesson --version";
 
 /// Why there is no answer.
 pub enum Trouble {
