@@ -1,7 +1,7 @@
 # make        builds the library for C and the listing program from their proved sources, and the desk; runs the listing on 01's example
 # make test   the whole gate: every proof, every edit that must fail, every program, and the host's tests
 # make bench  the benchmark (times depend on the machine; it is no test)
-# make fuzz   the fuzz target under libFuzzer, FUZZ_RUNS scripts of calls (host/fuzz/fuzz.mk)
+# make fuzz   the fuzz target under libFuzzer, FUZZ_RUNS scripts of calls (host/fuzz.mk)
 # make peers  the benchmark beside other people's AES, written into docs/SPEED.md and docs/speed.svg
 # make install PREFIX=/usr/local  puts header, library, pkg-config file, desk and listing in place, after make
 .PHONY: all test bench fuzz peers libraries listing probe
@@ -31,7 +31,7 @@ peers: probe
 	@$(MAKE) --no-print-directory host-peers
 
 fuzz: libraries
-	@tools/need clang libfuzzer
+	@tools/need cargo clang libfuzzer
 	@$(MAKE) --no-print-directory host-libfuzzer
 
 include host/host.mk

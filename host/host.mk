@@ -58,5 +58,5 @@ $(HOST_OUT)/header.o: host/c/header.cpp $(HOST_HEADER)
 include host/desk.mk
 include host/install.mk
 include host/lessons.mk
-include host/fuzz/fuzz.mk
+include host/fuzz.mk
 include host/peers/peers.mk

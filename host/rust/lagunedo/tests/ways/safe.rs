@@ -1,7 +1,7 @@
 //! A call by the safe functions.
 
 use super::{Call, Memory, What, FAULTY};
-use lagunedo::{add, check, read, remove, revise, step, Checked, Job, Refusal};
+use lagunedo::{add, check, job_step, read, remove, revise, step, Checked, Job, Refusal};
 
 pub fn call(call: &Call, before: &Memory, _: usize) -> (u32, Memory) {
     let mut after = before.clone();
@@ -9,27 +9,17 @@ pub fn call(call: &Call, before: &Memory, _: usize) -> (u32, Memory) {
     (answer.unwrap_or_else(Refusal::number), after)
 }
 
-/// A step with its place in a job.
-pub fn job_step(call: &Call, before: &Memory, _: usize) -> (u32, Memory) {
-    let mut after = before.clone();
-    let mut job = Job {
-        place: before.place,
-    };
-    let Memory { store, words, .. } = &mut after;
-    let answer = lagunedo::job_step(&mut job, &call.old_key, &call.new_key, store);
-    let answer = answer.map(|outcome| words[0] = outcome as u32);
-    after.place = job.place;
-    (answer.map_or_else(Refusal::number, |()| 0), after)
-}
-
 fn made(call: &Call, memory: &mut Memory) -> Result<u32, Refusal> {
-    let [old, new] = [&call.old_key, &call.new_key];
     let Memory {
+        old_key,
+        new_key,
         store,
         text,
         place,
         words,
+        ..
     } = memory;
+    let [old, new]: [&[u8]; 2] = [old_key, new_key];
     match call.what {
         What::Check => match check(store)? {
             Checked::Sound(c) => {
@@ -49,6 +39,12 @@ fn made(call: &Call, memory: &mut Memory) -> Result<u32, Refusal> {
         What::Revise => words[0] = revise(old, new, store, call.sheet, call.seen, text)?,
         What::Remove => remove(store, call.sheet)?,
         What::Step => words[0] = step(old, new, store, place)? as u32,
+        What::JobStep => {
+            let mut job = Job { place: *place };
+            words[0] = job_step(&mut job, old, new, store)? as u32;
+            *place = job.place;
+        }
+        _ => unreachable!("no call of the store"),
     }
     Ok(0)
 }
