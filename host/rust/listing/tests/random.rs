@@ -1,7 +1,7 @@
 //! Random stores against the listing of the second implementation.
 
 use inputs::Random;
-use listing::{listed, Slot, RECORD};
+use listing::{listed, Lead, Slot, RECORD};
 use second::listing;
 
 /// A failing store prints its own seed.
@@ -34,9 +34,9 @@ fn store(random: &mut Random) -> Vec<u8> {
 
 /// A sound slot with numbers of every size; sheet numbers differ by their
 /// last five bits.
-fn sound(random: &mut Random, k: u32) -> Slot {
+fn sound(random: &mut Random, k: u32) -> Lead {
     let sheet = random.word() as u32 >> below(random, 27);
-    Slot {
+    Lead {
         sheet: (sheet & !31 | k).max(32),
         revision: 1 + (below(random, 65_535) >> below(random, 16)) as u16,
         mark: below(random, 3) as u8,
