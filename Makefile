@@ -1,10 +1,9 @@
 # make        builds the library for C and the listing program from their proved sources, and the desk; runs the listing on 01's example
 # make test   the whole gate: every proof, every edit that must fail, every program, and the host's tests
-# make bench  the benchmark (times depend on the machine; it is no test)
+# make bench  the benchmark beside other people's AES, written into docs/SPEED.md and docs/speed.svg (it is no test)
 # make fuzz   the fuzz target under libFuzzer, FUZZ_RUNS scripts of calls (host/fuzz.mk)
-# make peers  the benchmark beside other people's AES, written into docs/SPEED.md and docs/speed.svg
 # make install PREFIX=/usr/local  puts header, library, pkg-config file, desk and listing in place, after make
-.PHONY: all test bench fuzz peers libraries listing probe
+.PHONY: all test bench fuzz libraries listing probe
 
 all: libraries listing
 	@$(MAKE) --no-print-directory $(HOST_OUT)/desk host-example
@@ -24,11 +23,7 @@ probe: libraries
 	@tools/quiet rt staticlib probe
 
 bench: probe
-	@tools/need cargo
 	@$(MAKE) --no-print-directory host-bench
-
-peers: probe
-	@$(MAKE) --no-print-directory host-peers
 
 fuzz: libraries
 	@tools/need cargo clang libfuzzer

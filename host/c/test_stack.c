@@ -12,6 +12,7 @@
 
 #include "check.h"
 #include "lagunedo.h"
+#include "record.h"
 
 enum { STACK = 1 << 18, UNUSED = 0xa5, MOST = 16 * 1024 };
 enum { STORE = LAGUNEDO_SLOT_LIMIT * LAGUNEDO_RECORD_SIZE };
@@ -91,7 +92,10 @@ static void remove_sheet(void)
 /* A step that converts: the sheet in slot 0 is marked clear first. */
 static void convert(void)
 {
-    sheets[6] = LAGUNEDO_MARK_CLEAR;
+    struct lead lead_now = lead_read(sheets);
+
+    lead_now.mark = LAGUNEDO_MARK_CLEAR;
+    lead_write(sheets, lead_now);
     step();
 }
 

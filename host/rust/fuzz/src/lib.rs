@@ -35,7 +35,8 @@ pub unsafe extern "C" fn LLVMFuzzerTestOneInput(bytes: *const u8, size: usize) -
         // SAFETY: the caller's.
         _ => unsafe { std::slice::from_raw_parts(bytes, size) },
     };
-    body::run(script);
+    // No panic may leave a call that C makes.
+    std::panic::catch_unwind(|| body::run(script)).unwrap_or_else(|_| std::process::abort());
     0
 }
 

@@ -3,15 +3,16 @@
  * FIPS 197, section 3.4 (row r and column c at r + 4c), one table for each
  * direction, and doubling in the byte field in place of further tables.
  *
- * The library is measured against it, so both do the same work: a call sets
- * up its key, then goes over the full blocks in place.
+ * It is the one peer that nobody ships: what a programmer writes who has the
+ * standard and an afternoon.
  */
-
-#include "plain_aes.h"
 
 #include <string.h>
 
-enum { BLOCK = 16, MOST_ROUNDS = 14 };
+#include "block.h"
+#include "peer.h"
+
+enum { MOST_ROUNDS = 14 };
 
 /* The round keys of section 5.2, one after the other. */
 struct schedule {
@@ -222,20 +223,21 @@ static void decipher(const struct schedule *s, uint8_t *block)
     last_inverse_round(block, two, key - 2 * BLOCK);
 }
 
-uint32_t plain_aes_blocks(const uint8_t *key, size_t key_length, bool back,
-                          uint8_t *buffer, size_t buffer_length)
+static struct schedule schedule;
+
+/* One schedule serves both ways. */
+static void set_up(const uint8_t *key, size_t key_length, unsigned ways)
 {
-    struct schedule s;
+    (void)ways;
+    expand(&schedule, key, key_length);
+}
+
+static void blocks(bool back, uint8_t *bytes, size_t length)
+{
     size_t at;
 
-    if (key_length != 16 && key_length != 32)
-        return 1;
-    expand(&s, key, key_length);
-    for (at = 0; buffer_length - at >= BLOCK; at += BLOCK) {
-        if (back)
-            decipher(&s, buffer + at);
-        else
-            encipher(&s, buffer + at);
-    }
-    return 0;
+    for (at = 0; at < length; at += BLOCK)
+        (back ? decipher : encipher)(&schedule, bytes + at);
 }
+
+const struct peer plain_peer = { "plain", set_up, blocks, NULL };
