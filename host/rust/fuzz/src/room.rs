@@ -4,16 +4,23 @@
 //! other side, and in the gap if there is one, stand bytes that must stay; and
 //! so beside each word and each place.
 
+use crate::draw::{Drawn, KEY_MOST};
+use crate::store::STORE_MOST;
 use calls::{by_library, Lent, Memory};
 use inputs::Random;
 use std::hint::black_box;
+use std::ops::Range;
 use std::ptr::null_mut;
-
-use crate::draw::{Drawn, KEY_MOST};
-use crate::store::STORE_MOST;
 
 /// How many bytes beside a byte string are looked at.
 const GUARD: usize = 64;
+
+/// What stands beside each word, and each place.
+const WORD_GUARD: u32 = 0xa55a_3cc3;
+const PLACE_GUARD: u64 = 0xa55a_3cc3_96f0_0f69;
+
+/// What a call returned and left, or what it changed that was not lent.
+pub type Made = Result<(u32, Memory), String>;
 
 /// No byte string needs alignment, so a gap may have any number of bytes.
 pub const GAP_MOST: usize = 7;
@@ -62,7 +69,7 @@ impl Yard {
         &mut self.bytes[from..end]
     }
 
-    fn beside(&self) -> [std::ops::Range<usize>; 2] {
+    fn beside(&self) -> [Range<usize>; 2] {
         let behind = self.bytes.len().min(self.end + GUARD);
         [self.from.saturating_sub(GUARD)..self.from, self.end..behind]
     }
@@ -95,25 +102,46 @@ fn mapped(least: usize) -> &'static mut [u8] {
     // SAFETY: the pages are new ones, and belong to nobody else. Those between
     // the first and the last are readable and writable from here on, and zero.
     unsafe {
-        let first = mmap(
-            null_mut(),
-            size + 2 * PAGE,
-            NONE,
-            PRIVATE_AND_ANONYMOUS,
-            -1,
-            0,
-        );
-        assert!(
-            !first.is_null() && first as isize != -1,
-            "no memory to lend"
-        );
+        let all = size + 2 * PAGE;
+        let first = mmap(null_mut(), all, NONE, PRIVATE_AND_ANONYMOUS, -1, 0);
+        assert!(first as isize != -1, "no memory to lend");
         let bytes = first.add(PAGE);
-        assert_eq!(
-            mprotect(bytes, size, READ_AND_WRITE),
-            0,
-            "no memory to lend"
-        );
+        let opened = mprotect(bytes, size, READ_AND_WRITE);
+        assert_eq!(opened, 0, "no memory to lend");
         std::slice::from_raw_parts_mut(bytes, size)
+    }
+}
+
+/// The words and the place that are lent, each between two that must stay.
+struct Numbers {
+    words: [u32; 13],
+    places: [u64; 3],
+}
+
+impl Numbers {
+    fn new(memory: &Memory) -> Self {
+        let word = |at: usize| match at % 2 {
+            1 => memory.words[at / 2],
+            _ => WORD_GUARD,
+        };
+        Self {
+            words: std::array::from_fn(word),
+            places: [PLACE_GUARD, memory.place, PLACE_GUARD],
+        }
+    }
+
+    fn lent(&mut self) -> ([&mut u32; 6], &mut u64) {
+        let [_, w0, _, w1, _, w2, _, w3, _, w4, _, w5, _] = self.words.each_mut();
+        ([w0, w1, w2, w3, w4, w5], &mut self.places[1])
+    }
+
+    fn back(&self) -> Result<([u32; 6], u64), String> {
+        let mut beside = self.words.iter().step_by(2);
+        let [low, place, high] = self.places;
+        if beside.any(|word| *word != WORD_GUARD) || [low, high] != [PLACE_GUARD; 2] {
+            return Err("a number beside one that is lent changed".to_owned());
+        }
+        Ok((std::array::from_fn(|k| self.words[2 * k + 1]), place))
     }
 }
 
@@ -128,27 +156,23 @@ impl Room {
 
     /// Makes the call by the library, on a copy of the memory: what it
     /// returns, and the memory after it.
-    pub fn made(
-        &mut self,
-        drawn: &Drawn,
-        memory: &Memory,
-        near: Near,
-    ) -> Result<(u32, Memory), String> {
+    pub fn made(&mut self, drawn: &Drawn, memory: &Memory, near: Near) -> Made {
         let [old, new, data, text, store] = &mut self.0;
-        let mut words = [GUARDING; 13];
-        (0..6).for_each(|k| words[2 * k + 1] = memory.words[k]);
-        let mut places = [!memory.place, memory.place, !memory.place];
+        let mut numbers = Numbers::new(memory);
+        // Whoever has its address may write to all of it, for all that the
+        // compiler knows: that is what is looked at afterwards.
+        let numbers = black_box(&mut numbers);
+        let (words, place) = numbers.lent();
         let old_key = &*old.lend(&memory.old_key[..drawn.old_key], near);
         let new_key = &*new.lend(&memory.new_key[..drawn.new_key], near);
-        let [_, w0, _, w1, _, w2, _, w3, _, w4, _, w5, _] = words.each_mut();
         let lent = Lent {
             old_key,
             new_key: if drawn.one_key { old_key } else { new_key },
             data: data.lend(&memory.data, near),
             text: text.lend(&memory.text, near),
             store: store.lend(&memory.store[..drawn.store], near),
-            place: &mut places[1],
-            words: [w0, w1, w2, w3, w4, w5],
+            place,
+            words,
         };
         let number = by_library(&drawn.call, lent);
         let mut after = memory.clone();
@@ -157,15 +181,7 @@ impl Room {
         after.data = data.back("associated data")?;
         after.text = text.back("text")?;
         after.store[..drawn.store].copy_from_slice(&store.back("store")?);
-        after.place = places[1];
-        after.words = [1, 3, 5, 7, 9, 11].map(|at| words[at]);
-        let beside = words.iter().step_by(2).all(|word| *word == GUARDING);
-        if !beside || places[0] != !memory.place || places[2] != !memory.place {
-            return Err("a number beside a pointer's changed".to_owned());
-        }
+        (after.words, after.place) = black_box(numbers).back()?;
         Ok((number, after))
     }
 }
-
-/// What stands beside each word.
-const GUARDING: u32 = 0xa55a_3cc3;

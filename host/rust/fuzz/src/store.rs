@@ -68,7 +68,8 @@ fn draw_slot(script: &mut Script, record: &mut [u8]) {
         _ => {
             Random::new(script.number(2)).fill(record);
             let sheet = u32::from(script.byte() % 7 + 1);
-            record[..4].copy_from_slice(&sheet.to_le_bytes());
+            let lead = Lead::of(record);
+            Lead { sheet, ..lead }.put(record);
         }
     }
 }
