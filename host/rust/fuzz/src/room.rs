@@ -185,3 +185,29 @@ impl Room {
         Ok((number, after))
     }
 }
+
+#[cfg(test)]
+mod tests {
+    use super::{Near, Yard, GAP_MOST};
+
+    const BYTES: [u8; 3] = [1, 2, 3];
+
+    /// At either end, with each gap: the string stands where it is asked for,
+    /// comes back, and a byte changed on either side of it is noticed.
+    #[test]
+    fn notices() {
+        let mut yard = Yard::open(BYTES.len());
+        for (at_end, gap) in (0..=GAP_MOST).flat_map(|gap| [(false, gap), (true, gap)]) {
+            let lent = yard.lend(&BYTES, Near { at_end, gap });
+            lent[1] = 7;
+            assert_eq!(yard.back("string"), Ok(vec![1, 7, 3]));
+            let behind = yard.bytes.len() - yard.end;
+            assert_eq!(if at_end { behind } else { yard.from }, gap);
+            for beside in yard.beside().into_iter().flatten() {
+                yard.bytes[beside] ^= 1;
+                assert!(yard.back("string").is_err(), "byte {beside}");
+                yard.bytes[beside] ^= 1;
+            }
+        }
+    }
+}

@@ -83,3 +83,24 @@ pub fn complete(least: u64) -> Result<(), String> {
         "below {least} times: {rare:?}; not named by 01: {others:?}"
     ))
 }
+
+#[cfg(test)]
+mod tests {
+    use super::*;
+
+    /// What is missing is told, and what 01 does not name.
+    #[test]
+    fn tells() {
+        assert!(complete(1).is_err_and(|told| told.contains("(Read, 13, 0)")));
+        for (what, refusals) in ORDER {
+            let answers = named(what, refusals);
+            answers
+                .iter()
+                .for_each(|(_, n, outcome)| count(what, *n, *outcome));
+        }
+        assert_eq!(complete(1), Ok(()));
+        assert!(complete(2).is_err());
+        count(What::Read, 14, 0);
+        assert!(complete(1).is_err_and(|told| told.contains("by 01: [(Read, 14, 0)]")));
+    }
+}
