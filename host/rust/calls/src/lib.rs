@@ -1,11 +1,14 @@
 //! Every call of `lagunedo.h` as one thing, so that the tests and the fuzz
-//! body make it by the library and by the second implementation alike, and
-//! compare what it returns and every byte of what it was lent.
+//! body make it as C does, by the safe functions and by the second
+//! implementation alike, and compare what it returns and every byte of what it
+//! was lent.
 
 mod library;
+mod safe;
 mod second;
 
 pub use library::by_library;
+pub use safe::by_safe;
 pub use second::by_second;
 
 /// What check returns where a slot is faulty.

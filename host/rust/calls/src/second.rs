@@ -19,38 +19,26 @@ pub fn by_second(call: &Call, lent: Lent) -> u32 {
 fn on_store(call: &Call, lent: Lent) -> Result<(), u32> {
     let (old, new) = (lent.old_key, lent.new_key);
     let keys = Keys { old, new };
-    let (store, text, words) = (lent.store, lent.text, lent.words);
-    let answers = match call.what {
+    let (store, text, sheet) = (lent.store, lent.text, call.sheet);
+    let [w0, w1, w2, w3, w4, w5] = lent.words;
+    match call.what {
         What::Check => match check(store)? {
             Checked::Sound(c) => {
-                let counts = [c.used, c.free, c.clear, c.old, c.new];
-                words
-                    .into_iter()
-                    .skip(1)
-                    .zip(counts)
-                    .for_each(|(word, n)| *word = n);
-                return Ok(());
+                [*w1, *w2, *w3, *w4, *w5] = [c.used, c.free, c.clear, c.old, c.new];
             }
             Checked::Faulty(slot) => {
-                *words[0] = slot;
+                *w0 = slot;
                 return Err(FAULTY);
             }
         },
         What::Read => {
-            let found = read(keys, store, call.sheet, text)?;
-            vec![found.length, found.revision]
+            let found = read(keys, store, sheet, text)?;
+            [*w0, *w1] = [found.length, found.revision];
         }
-        What::Add => vec![add(keys, store, call.sheet, text)?],
-        What::Revise => vec![revise(keys, store, call.sheet, call.seen, text)?],
-        What::Remove => {
-            remove(store, call.sheet)?;
-            vec![]
-        }
-        _ => vec![step(keys, store, lent.place)? as u32],
-    };
-    words
-        .into_iter()
-        .zip(answers)
-        .for_each(|(word, n)| *word = n);
+        What::Add => *w0 = add(keys, store, sheet, text)?,
+        What::Revise => *w0 = revise(keys, store, sheet, call.seen, text)?,
+        What::Remove => remove(store, sheet)?,
+        _ => *w0 = step(keys, store, lent.place)? as u32,
+    }
     Ok(())
 }

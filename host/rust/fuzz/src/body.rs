@@ -5,7 +5,7 @@ use crate::draw::{self, Drawn, COPIES, KEY_MOST};
 use crate::room::{Near, Room, GAP_MOST};
 use crate::script::Script;
 use crate::{store, tally};
-use calls::{by_second, Lent, Memory};
+use calls::{by_safe, by_second, Lent, Memory};
 use inputs::Random;
 use second::record::RECORD;
 use std::sync::{LazyLock, Mutex};
@@ -95,22 +95,25 @@ impl Play {
         }
     }
 
-    /// Makes the call in both ways, and sees that they agree.
+    /// Makes the call in every way, and sees that they agree.
     fn agreed(&mut self, drawn: &Drawn) -> u32 {
         let mut room = ROOM.lock().expect("a panic ends the process");
         let made = room.made(drawn, &self.memory, self.near);
-        let (number, after) =
-            made.unwrap_or_else(|what| panic!("{what}: {drawn:?}, {:?}", self.near));
+        let library = made.unwrap_or_else(|what| panic!("{what}: {drawn:?}, {:?}", self.near));
+        let mut memory = self.memory.clone();
+        let safely = (by_safe(&drawn.call, cut(drawn, &mut memory)), memory);
         let wanted = by_second(&drawn.call, cut(drawn, &mut self.memory));
-        assert_eq!(number, wanted, "the number returned: {drawn:?}");
-        let difference = after.difference(&self.memory);
-        assert_eq!(difference, None, "not as the model says: {drawn:?}");
-        tally::count(drawn.call.what, number, self.memory.words[0]);
-        number
+        for (way, (number, after)) in [("as C calls it", library), ("safely", safely)] {
+            assert_eq!(number, wanted, "{way}, the number returned: {drawn:?}");
+            let difference = after.difference(&self.memory);
+            assert_eq!(difference, None, "{way}: {drawn:?}");
+        }
+        tally::count(drawn.call.what, wanted, self.memory.words[0]);
+        wanted
     }
 }
 
-/// What the second implementation is lent of the memory.
+/// What is lent of memory that needs no guard, since Rust keeps its bounds.
 fn cut<'a>(drawn: &Drawn, memory: &'a mut Memory) -> Lent<'a> {
     let mut lent = memory.lent();
     lent.old_key = &lent.old_key[..drawn.old_key];

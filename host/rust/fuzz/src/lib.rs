@@ -1,7 +1,7 @@
 //! The fuzz target's body: one input, whoever makes it, is read as a script of
 //! calls. Each call is made by the library, on memory that stands against
-//! pages which may not be touched, and by the second implementation; the
-//! number that it returns and every byte have to be the same.
+//! pages which may not be touched, by the safe functions over it, and by the
+//! second implementation; what it returns and every byte have to be the same.
 //!
 //! - `script`: bytes read as choices
 //! - `store`: the bytes of a store, sound as often as not

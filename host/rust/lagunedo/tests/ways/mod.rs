@@ -3,8 +3,8 @@
 //! and to leave the same in all memory that is lent.
 
 mod raw;
-mod safe;
 
+use calls::{by_safe, by_second};
 pub use calls::{Call, Memory, What, FAULTY};
 pub use second::record::RECORD;
 
@@ -12,10 +12,7 @@ pub use second::record::RECORD;
 /// number moves the addresses of what is lent.
 type Way = fn(&Call, &Memory, usize) -> (u32, Memory);
 
-const WAYS: [(&str, Way); 2] = [
-    ("as C calls it", raw::call),
-    ("by the safe function", safe::call),
-];
+const WAYS: [(&str, Way); 2] = [("as C calls it", raw::call), ("by the safe function", safe)];
 
 /// What all ways return and leave. Where a step is made, it is made with its
 /// job lent too.
@@ -26,7 +23,7 @@ pub fn agree(
     name: &dyn Fn() -> String,
 ) -> (u32, Memory) {
     let mut wanted = before.clone();
-    let number = calls::by_second(call, wanted.lent());
+    let number = by_second(call, wanted.lent());
     let mut whats = vec![call.what];
     whats.extend((call.what == What::Step).then_some(What::JobStep));
     for (what, (how, way)) in whats.iter().flat_map(|w| WAYS.map(|way| (w, way))) {
@@ -40,4 +37,9 @@ pub fn agree(
         assert_eq!(difference, None, "{}: {call:?} {how}", name());
     }
     (number, wanted)
+}
+
+fn safe(call: &Call, before: &Memory, _: usize) -> (u32, Memory) {
+    let mut after = before.clone();
+    (by_safe(call, after.lent()), after)
 }
