@@ -3,6 +3,7 @@
 use inputs::Random;
 use listing::{listed, Lead, Slot, RECORD};
 use second::listing;
+use second::record::LEAD;
 
 /// A failing store prints its own seed.
 const SEED: u64 = 0x0115_7e0d_0000;
@@ -53,7 +54,7 @@ fn damage(random: &mut Random, store: &mut [u8]) {
     let at = if below(random, 2) == 0 {
         at
     } else {
-        at - at % RECORD + at % 16
+        at - at % RECORD + at % LEAD
     };
     store[at] ^= 1 << below(random, 8);
 }
