@@ -2,12 +2,11 @@
 #             listing on 01's example
 # make check  for daily work: what changed is proved again, then every program and every test of the host is run; no edit that must fail
 # make test   the whole gate: every proof from nothing, every edit that must fail, every program, and the host's tests
-# make bench  the benchmark (times depend on the machine; it is no test)
-# make fuzz   the fuzz target under libFuzzer, FUZZ_RUNS scripts of calls (host/fuzz/fuzz.mk)
-# make peers  the benchmark beside other people's AES, written into docs/SPEED.md and docs/speed.svg
+# make bench  the benchmark beside other people's AES, written into docs/SPEED.md and docs/speed.svg (it is no test)
+# make fuzz   the fuzz target under libFuzzer, FUZZ_RUNS scripts of calls (host/fuzz.mk)
 # make dist   target/dist/lagunedo-VERSION-x86_64-linux.tar.gz, for machines without the kit (host/dist.mk)
 # make install PREFIX=/usr/local  puts headers, libraries, pkg-config file, desk, listing and man pages in place, after make
-.PHONY: all check test bench fuzz peers dist libraries listing
+.PHONY: all check test bench fuzz dist libraries listing
 
 all:
 	@tools/need rt cc
@@ -30,17 +29,13 @@ listing:
 	@tools/build listing
 
 bench: libraries
-	@tools/need cargo
 	@$(MAKE) --no-print-directory host-bench
-
-peers: libraries
-	@$(MAKE) --no-print-directory host-peers
 
 dist: libraries listing
 	@$(MAKE) --no-print-directory host-archive
 
 fuzz: libraries
-	@tools/need clang libfuzzer
+	@tools/need cargo clang libfuzzer
 	@$(MAKE) --no-print-directory host-libfuzzer
 
 include host/host.mk

@@ -1,6 +1,6 @@
-# The host side: the library's header, its tests in C and Rust, the example
-# and the benchmark; the other rooms of host/ have files of their own, which
-# are included below. Included by the Makefile at the root, where every recipe runs.
+# The host side: the library's header, its tests in C and Rust, and the
+# example; the other rooms of host/ have files of their own, which are
+# included below. Included by the Makefile at the root, where every recipe runs.
 # All products go under target/.
 
 # The folder of liblagunedo.a and libprobe.a. One named here instead has to be
@@ -15,7 +15,7 @@ HOST_CXXFLAGS := -std=c++11 -O2 -Wall -Wextra -Wpedantic -Werror
 HOST_CARGO := CARGO_TARGET_DIR=target/cargo cargo
 HOST_CARGO_FLAGS := --release --offline --locked --manifest-path host/rust/Cargo.toml
 
-.PHONY: host-c host-header host-example host-rust host-trace host-bench
+.PHONY: host-c host-header host-example host-rust host-trace
 
 host-c: $(HOST_OUT)/test host-header
 	$(HOST_OUT)/test
@@ -37,9 +37,6 @@ host-rust:
 host-trace:
 	$(HOST_CARGO) test $(HOST_CARGO_FLAGS) --package lagunedo --test traces alone -- --ignored
 
-host-bench:
-	$(HOST_CARGO) run $(HOST_CARGO_FLAGS) --package bench
-
 $(HOST_LIBRARY):
 	@echo "$@ is not there: make builds it" >&2; exit 1
 
@@ -59,5 +56,5 @@ include host/desk.mk
 include host/install.mk
 include host/lessons.mk
 include host/dist.mk
-include host/fuzz/fuzz.mk
+include host/fuzz.mk
 include host/peers/peers.mk

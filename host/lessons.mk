@@ -4,7 +4,7 @@
 .PHONY: host-eme2 host-lessons lesson-program
 
 host-lessons: host-eme2 $(HOST_OUT)/desk lesson-program
-	tools/made-again
+	tools/made-again --check
 	tools/numbers
 	tools/lessons
 

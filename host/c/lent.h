@@ -14,6 +14,7 @@
 
 #include "check.h"
 #include "lagunedo.h"
+#include "record.h"
 
 /* Where each byte string stands, with room for the largest that is lent. */
 enum {
@@ -92,6 +93,9 @@ void put_sheet(struct room *room, size_t slot, struct sheet sheet);
 /* The same record in both rooms. */
 void hold_sheet(size_t slot, struct sheet sheet);
 
+/* The lead of a slot in both rooms; the rest of it is kept. */
+void hold_lead(size_t slot, struct lead lead);
+
 /* One byte of a slot in both rooms. */
 void hold_byte(size_t slot, size_t at, uint8_t byte);
 
@@ -114,7 +118,7 @@ void expect(const struct call *call, uint32_t number, const char *what);
  * The ways in which a used slot is made unsound, one field at a time. In both
  * rooms, and the slot's text is 40 bytes long.
  */
-enum { FLAWS = 18 };
+enum { FIELD_FLAWS = 8, FLAWS = 18 };
 
 void flaw(size_t slot, size_t which);
 

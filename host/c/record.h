@@ -14,6 +14,12 @@ struct lead {
     uint32_t length;
 };
 
+/*
+ * Bytes of a lead that are no field and have to be 0: one between the mark and
+ * the length, and those from LEAD_END on.
+ */
+enum { LEAD_GAP = 7, LEAD_END = 10 };
+
 struct lead lead_read(const uint8_t *record);
 
 /* Writes all 16 bytes of the lead. */

@@ -6,7 +6,6 @@
 #include <string.h>
 
 #include "lent.h"
-#include "record.h"
 
 struct room now, wanted;
 
@@ -62,19 +61,25 @@ void put_sheet(struct room *room, size_t slot, struct sheet sheet)
 
     memset(record, 0, LAGUNEDO_RECORD_SIZE);
     lead_write(record, lead);
-    fill(record + 16, sheet.length, sheet.seed);
+    fill(record + LAGUNEDO_LEAD_SIZE, sheet.length, sheet.seed);
     if (sheet.mark == LAGUNEDO_MARK_OLD_KEY)
         lagunedo_eme2_encipher(room->bytes + OLD_AT, lent_old, record, 16,
-                               record + 16, sheet.length);
+                               record + LAGUNEDO_LEAD_SIZE, sheet.length);
     if (sheet.mark == LAGUNEDO_MARK_NEW_KEY)
         lagunedo_eme2_encipher(room->bytes + NEW_AT, lent_new, record, 16,
-                               record + 16, sheet.length);
+                               record + LAGUNEDO_LEAD_SIZE, sheet.length);
 }
 
 void hold_sheet(size_t slot, struct sheet sheet)
 {
     put_sheet(&now, slot, sheet);
     memcpy(slot_of(&wanted, slot), slot_of(&now, slot), LAGUNEDO_RECORD_SIZE);
+}
+
+void hold_lead(size_t slot, struct lead lead)
+{
+    lead_write(slot_of(&now, slot), lead);
+    lead_write(slot_of(&wanted, slot), lead);
 }
 
 void hold_byte(size_t slot, size_t at, uint8_t byte)
@@ -228,48 +233,62 @@ void expect(const struct call *call, uint32_t number, const char *what)
 }
 
 /* The text of the slot ends here, and every byte behind it is 0. */
-static void cut(size_t slot, uint8_t length)
+static void cut(size_t slot, size_t length)
 {
     size_t at;
 
-    for (at = (size_t)16 + length; at < LAGUNEDO_RECORD_SIZE; at++)
+    for (at = LAGUNEDO_LEAD_SIZE + length; at < LAGUNEDO_RECORD_SIZE; at++)
         hold_byte(slot, at, 0);
+}
+
+/* A field out of its range. */
+static void flaw_field(size_t slot, size_t which)
+{
+    static const uint32_t lengths[] = {
+        0,     /* no text, and zeros in its place */
+        15,    /* one byte short, and zeros behind it */
+        2097,  /* one byte long */
+        65535, /* the longest that can be written */
+        39     /* the text's last byte now behind it */
+    };
+    static const uint8_t marks[] = { 3, 255 }; /* too high, the highest */
+    struct lead lead = lead_read(slot_of(&now, slot));
+
+    if (which == 0)
+        lead.revision = 0;
+    else if (which <= 2)
+        lead.mark = marks[which - 1];
+    else
+        lead.length = lengths[which - 3];
+    hold_lead(slot, lead);
+    if (lead.length < 40)
+        cut(slot, lead.length);
+    if (lead.length == 39)
+        hold_byte(slot, LAGUNEDO_LEAD_SIZE + 39, 1);
 }
 
 void flaw(size_t slot, size_t which)
 {
-    /* A byte, or the low and the high byte of a number. */
+    /* Bytes that have to be 0. */
     static const struct {
         size_t at;
-        uint8_t low, high;
-    } flaws[FLAWS] = {
-        { 4, 0, 0 },       /* revision 0 */
-        { 6, 3, 0 },       /* a mark too high */
-        { 6, 255, 0 },     /* the highest */
-        { 7, 1, 0 },       /* the byte between mark and length */
-        { 7, 128, 0 },     /* its high bit */
-        { 8, 0, 0 },       /* no text, and zeros in its place */
-        { 8, 15, 0 },      /* one byte short, and zeros behind it */
-        { 8, 49, 8 },      /* 2,097, one byte long */
-        { 8, 255, 255 },   /* the longest that can be written */
-        { 8, 39, 0 },      /* the text's last byte now behind it */
-        { 10, 1, 0 },      /* the end of the lead */
-        { 11, 1, 0 },
-        { 12, 1, 0 },
-        { 14, 1, 0 },
-        { 15, 64, 0 },
-        { 56, 1, 0 },      /* right behind the text */
-        { 1000, 16, 0 },   /* far behind it */
-        { 2111, 128, 0 }   /* the last byte of the slot */
+        uint8_t byte;
+    } zeros[] = {
+        { LEAD_GAP, 1 },
+        { LEAD_GAP, 128 },     /* its high bit */
+        { LEAD_END, 1 },
+        { LEAD_END + 1, 1 },
+        { LEAD_END + 2, 1 },
+        { LEAD_END + 4, 1 },
+        { LEAD_END + 5, 64 },  /* the last of the lead */
+        { 56, 1 },             /* right behind the text */
+        { 1000, 16 },          /* far behind it */
+        { 2111, 128 }          /* the last byte of the slot */
     };
-    size_t at = flaws[which].at;
-    uint8_t low = flaws[which].low, high = flaws[which].high;
 
-    if (at == 8 && high == 0)
-        cut(slot, low);
-    if (at == 8 && low == 39)
-        hold_byte(slot, 16 + 39, 1);
-    hold_byte(slot, at, low);
-    if (at == 4 || at == 8)
-        hold_byte(slot, at + 1, high);
+    if (which < FIELD_FLAWS)
+        flaw_field(slot, which);
+    else
+        hold_byte(slot, zeros[which - FIELD_FLAWS].at,
+                  zeros[which - FIELD_FLAWS].byte);
 }

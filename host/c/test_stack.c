@@ -12,6 +12,7 @@
 
 #include "check.h"
 #include "lagunedo.h"
+#include "record.h"
 
 enum { STACK = 1 << 18, UNUSED = 0xa5 };
 enum { STORE = LAGUNEDO_SLOT_LIMIT * LAGUNEDO_RECORD_SIZE };
@@ -106,16 +107,24 @@ static void remove_sheet(void)
     number = lagunedo_remove(sheets, sizeof sheets, 7);
 }
 
+static void mark_old_key(void)
+{
+    struct lead lead_now = lead_read(sheets);
+
+    lead_now.mark = LAGUNEDO_MARK_OLD_KEY;
+    lead_write(sheets, lead_now);
+}
+
 /* Steps that convert: the sheet in slot 0 is marked old key first. */
 static void convert(void)
 {
-    sheets[6] = LAGUNEDO_MARK_OLD_KEY;
+    mark_old_key();
     step();
 }
 
 static void job_convert(void)
 {
-    sheets[6] = LAGUNEDO_MARK_OLD_KEY;
+    mark_old_key();
     job_step();
 }
 

@@ -444,11 +444,11 @@ static void repeated(void)
     expect(&revise, LAGUNEDO_DONE, "the lower of two revised");
 
     /* Soundness is asked of the slot found, and of no other. */
-    hold_byte(3, 7, 1);
+    hold_byte(3, LEAD_GAP, 1);
     want_read(16, 83, 6);
     expect(&read, LAGUNEDO_DONE, "the lower of two, the higher unsound");
-    hold_byte(3, 7, 0);
-    hold_byte(1, 7, 1);
+    hold_byte(3, LEAD_GAP, 0);
+    hold_byte(1, LEAD_GAP, 1);
     expect(&read, LAGUNEDO_SLOT_UNSOUND, "the lower of two unsound");
     revise.seen = 6;
     expect(&revise, LAGUNEDO_SLOT_UNSOUND, "the lower of two unsound");
@@ -558,10 +558,10 @@ static void faults(void)
     check.store += 1;
     wanted.word[FAULT] = 2;
     expect(&check, LAGUNEDO_FAULT, "a repeat below another fault");
-    hold_byte(1, 7, 9);
+    hold_byte(1, LEAD_GAP, 9);
     wanted.word[FAULT] = 1;
     expect(&check, LAGUNEDO_FAULT, "a flaw below its repeat");
-    hold_byte(1, 7, 0);
+    hold_byte(1, LEAD_GAP, 0);
     memset(slot_of(&now, 2), 0, LAGUNEDO_RECORD_SIZE);
     memset(slot_of(&wanted, 2), 0, LAGUNEDO_RECORD_SIZE);
     wanted.word[FAULT] = 4;
@@ -569,7 +569,8 @@ static void faults(void)
     hold_byte(4, 2000, 0);
     wanted.word[FAULT] = 5;
     expect(&check, LAGUNEDO_FAULT, "a repeat in the last slot");
-    hold_byte(5, 0, 96);
+    sheet.number = 96;
+    hold_sheet(5, sheet);
     want_counts(2, 4, 0, 2, 0);
     expect(&check, LAGUNEDO_DONE, "no fault left");
 }

@@ -1,13 +1,10 @@
-#include "agree.h"
+#include "bench.h"
 
 #include <stdio.h>
 #include <string.h>
 
 #include "block.h"
-#include "eme2.h"
 #include "fill.h"
-#include "must.h"
-#include "ours.h"
 
 #define COUNT(array) (sizeof(array) / sizeof(array)[0])
 

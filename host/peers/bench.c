@@ -1,10 +1,10 @@
 /*
  * The benchmark beside peers, one contestant a run:
  *
- *   bench openssl|nettle|bearssl agree NAME   compares its bytes with ours
- *   bench openssl|nettle|bearssl times NAME   prints its rows under that name
- *   bench lagunedo times NAME                 prints ours
- *   bench lagunedo eme                        prints what EME is to give
+ *   bench PEER agree NAME       compares its bytes with ours
+ *   bench PEER times NAME       prints its rows under that name
+ *   bench lagunedo times NAME   prints ours
+ *   bench lagunedo eme          prints what EME is to give
  *
  * host/peers/run puts the runs together.
  */
@@ -12,14 +12,12 @@
 #include <stdio.h>
 #include <string.h>
 
-#include "agree.h"
-#include "ciphers.h"
-#include "store.h"
+#include "bench.h"
 
-enum { PEERS = 3 };
+enum { PEERS = 4 };
 
 static const struct peer *const peers[PEERS] = { &openssl_peer, &nettle_peer,
-                                                 &bearssl_peer };
+                                                 &bearssl_peer, &plain_peer };
 
 static const struct peer *peer_of(const char *word)
 {

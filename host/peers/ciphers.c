@@ -1,10 +1,6 @@
-#include "ciphers.h"
-
+#include "bench.h"
 #include "block.h"
-#include "eme2.h"
 #include "fill.h"
-#include "ours.h"
-#include "row.h"
 
 /* A page, the longest sheet, and the limits of a message. */
 enum { PAGE = 4096, SHEET = 2096, LEAST = 16, MOST = 65536 };
@@ -119,6 +115,7 @@ void time_ours(const char *who)
     call.length = PAGE;
     time_rows(aes, call, library_blocks);
     call.length = SHEET;
+    time_rows(slice, call, library_blocks);
     time_rows(wide, call, library_eme2);
     for (call.length = LEAST; call.length <= MOST; call.length *= 2)
         time_rows(wide, call, library_eme2);

@@ -1,10 +1,11 @@
 /*
- * The names are those of 000's Table 1. Deciphering is the same with Dec for
+ * EME2-AES over a peer's AES, written from source document 000 and 01 for the
+ * benchmark alone. The names are those of 000's Table 1. Deciphering is the same with Dec for
  * Enc in all message steps. AES goes over all full blocks in one call, so
  * that a peer that takes many at once can.
  */
 
-#include "eme2.h"
+#include "bench.h"
 
 #include <string.h>
 

@@ -6,8 +6,7 @@
 #include <openssl/crypto.h>
 #include <openssl/evp.h>
 
-#include "must.h"
-#include "peer.h"
+#include "bench.h"
 
 enum { SIZES = 2, WAYS = 2 };
 

@@ -1,9 +1,14 @@
-#include "ours.h"
-
+#include "bench.h"
 #include "block.h"
 #include "lagunedo.h"
-#include "must.h"
-#include "probe.h"
+
+/* The two calls of libprobe.a, which are no part of lagunedo.h. */
+uint32_t lagunedo_probe_aes_blocks(const uint8_t *key, size_t key_length,
+                                   bool back, uint8_t *bytes, size_t length);
+uint32_t lagunedo_probe_wide(const uint8_t *key, size_t key_length, bool back,
+                             const uint8_t *l, size_t l_length,
+                             const uint8_t *t, size_t t_length,
+                             uint8_t *message, size_t message_length);
 
 static void done(uint32_t number)
 {

@@ -1,6 +1,5 @@
 /*
- * A peer: an AES that others wrote, with its key set up as it does that
- * itself. The benchmark times it by itself, and EME2 over it.
+ * A peer: another AES, with its key set up as it does that itself. The benchmark times it by itself, and EME2 over it.
  */
 
 #ifndef PEER_H
@@ -31,7 +30,7 @@ struct peer {
     const char *(*settings)(void);
 };
 
-extern const struct peer openssl_peer, nettle_peer, bearssl_peer;
+extern const struct peer openssl_peer, nettle_peer, bearssl_peer, plain_peer;
 
 /* For AES by itself, which needs one way. */
 static inline void aes_set_up(const struct peer *aes, const uint8_t *key,

@@ -3,8 +3,8 @@
 # before anything is built, so its script asks for the programs.
 
 PEERS_OUT := target/peers
-PEERS_SOURCES := $(wildcard host/peers/*.c) host/c/fill.c host/peers/place.S
-PEERS_HEADERS := $(wildcard host/peers/*.h) host/c/fill.h $(HOST_HEADER)
+PEERS_SOURCES := $(wildcard host/peers/*.c) host/c/fill.c host/c/record.c host/peers/place.S
+PEERS_HEADERS := $(wildcard host/peers/*.h) host/c/fill.h host/c/record.h $(HOST_HEADER)
 PEERS_LIBRARIES := $(HOST_LIBRARY) $(LAGUNEDO_STATICLIB)/libprobe.a
 PEERS_GO := $(wildcard host/peers/eme/*.go)
 
@@ -16,11 +16,11 @@ PEERS_PLACES := 16 32 48 64
 # A mask of EME2 is two words. GCC's vectoriser would join them and lose time
 # in moving them, which would make every peer look slower than it is.
 # endian.h asks for more than C99.
-PEERS_CFLAGS := $(HOST_CFLAGS) -fno-tree-slp-vectorize -D_DEFAULT_SOURCE
+PEERS_CFLAGS := $(HOST_CFLAGS) -O3 -fno-tree-slp-vectorize -D_DEFAULT_SOURCE
 
-.PHONY: host-peers peers-programs
+.PHONY: host-bench peers-programs
 
-host-peers:
+host-bench:
 	PEERS_PLACES='$(PEERS_PLACES)' host/peers/run
 
 peers-programs: $(PEERS_PLACES:%=$(PEERS_OUT)/bench-%) $(PEERS_OUT)/eme

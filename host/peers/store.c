@@ -1,19 +1,20 @@
-#include "store.h"
+/*
+ * The store's calls timed: at growing numbers of slots under keys of 48 bytes,
+ * and on one slot under keys of 64.
+ */
 
 #include <string.h>
 
+#include "bench.h"
 #include "fill.h"
 #include "lagunedo.h"
-#include "must.h"
-#include "row.h"
+#include "record.h"
 
-enum { KEY = 48, GROWTH = 4 };
-
-/* Where the fields stand that are put back before a call (01, The store). */
-enum { NUMBER = 0, REVISION = 4, MARK = 6, LENGTH = 8 };
+enum { GROWTH = 4 };
 
 static uint8_t sheets[LAGUNEDO_SLOT_LIMIT * LAGUNEDO_RECORD_SIZE];
-static uint8_t old_key[KEY], new_key[KEY], text[LAGUNEDO_TEXT_MOST];
+static uint8_t old_key[64], new_key[64], text[LAGUNEDO_TEXT_MOST];
+static size_t key; /* how many bytes of the keys are lent */
 
 /* A full store: slot k has sheet k + 1, and each text is as long. */
 struct store {
@@ -31,10 +32,13 @@ static uint8_t *slot(uint32_t k)
     return sheets + (size_t)k * LAGUNEDO_RECORD_SIZE;
 }
 
-static void put(uint8_t *bytes, size_t width, size_t number)
+/* The lead of a slot is put back before a call that changes it. */
+static void put(const struct store *s, uint32_t k, uint32_t sheet,
+                uint8_t mark)
 {
-    for (; width > 0; width--, number >>= 8)
-        *bytes++ = (uint8_t)number;
+    struct lead lead = { sheet, 1, mark, (uint32_t)s->text_length };
+
+    lead_write(slot(k), lead);
 }
 
 /* Under a key any bytes are the encipherment of some text. */
@@ -44,10 +48,7 @@ static void make(const struct store *s)
 
     memset(sheets, 0, sizeof sheets);
     for (k = 0; k < s->slots; k++) {
-        put(slot(k) + NUMBER, 4, k + 1);
-        put(slot(k) + REVISION, 2, 1);
-        put(slot(k) + MARK, 1, LAGUNEDO_MARK_NEW_KEY);
-        put(slot(k) + LENGTH, 2, s->text_length);
+        put(s, k, k + 1, LAGUNEDO_MARK_NEW_KEY);
         fill(slot(k) + LAGUNEDO_LEAD_SIZE, s->text_length, k);
     }
 }
@@ -69,7 +70,7 @@ static void read_last(void *with)
     const struct store *s = with;
     uint32_t length, revision;
 
-    must(lagunedo_read(old_key, KEY, new_key, KEY, sheets, size_of(s),
+    must(lagunedo_read(old_key, key, new_key, key, sheets, size_of(s),
                        s->slots, text, sizeof text, &length,
                        &revision) == LAGUNEDO_DONE,
          "read is refused");
@@ -81,8 +82,8 @@ static void add_last(void *with)
     const struct store *s = with;
     uint32_t revision;
 
-    put(slot(s->slots - 1) + NUMBER, 4, 0);
-    must(lagunedo_add(old_key, KEY, new_key, KEY, sheets, size_of(s),
+    put(s, s->slots - 1, 0, LAGUNEDO_MARK_CLEAR);
+    must(lagunedo_add(old_key, key, new_key, key, sheets, size_of(s),
                       s->slots, text, s->text_length,
                       &revision) == LAGUNEDO_DONE,
          "add is refused");
@@ -93,8 +94,8 @@ static void revise_last(void *with)
     const struct store *s = with;
     uint32_t revision;
 
-    put(slot(s->slots - 1) + REVISION, 2, 1);
-    must(lagunedo_revise(old_key, KEY, new_key, KEY, sheets, size_of(s),
+    put(s, s->slots - 1, s->slots, LAGUNEDO_MARK_NEW_KEY);
+    must(lagunedo_revise(old_key, key, new_key, key, sheets, size_of(s),
                          s->slots, 1, text, s->text_length,
                          &revision) == LAGUNEDO_DONE,
          "revise is refused");
@@ -108,9 +109,9 @@ static void rekey(void *with)
     uint32_t k, outcome, converted = 0;
 
     for (k = 0; k < s->slots; k++)
-        put(slot(k) + MARK, 1, LAGUNEDO_MARK_OLD_KEY);
+        put(s, k, k + 1, LAGUNEDO_MARK_OLD_KEY);
     do {
-        must(lagunedo_job_step(&job, old_key, KEY, new_key, KEY, sheets,
+        must(lagunedo_job_step(&job, old_key, key, new_key, key, sheets,
                                size_of(s), &outcome) == LAGUNEDO_DONE,
              "a step is refused");
         converted += outcome == LAGUNEDO_STEP_CONVERTED;
@@ -131,29 +132,36 @@ static void time_calls(struct row row, struct store store)
 {
     size_t i;
 
-    for (store.slots = 1; store.slots <= LAGUNEDO_SLOT_LIMIT;
-         store.slots *= GROWTH) {
-        row.size = store.slots;
-        make(&store);
-        for (i = 0; i < sizeof calls / sizeof calls[0]; i++) {
-            row.call = calls[i].name;
-            time_row(&row, calls[i].call, &store);
-        }
+    row.size = store.slots;
+    make(&store);
+    for (i = 0; i < sizeof calls / sizeof calls[0]; i++) {
+        row.call = calls[i].name;
+        time_row(&row, calls[i].call, &store);
     }
+}
+
+static void time_sheets(struct row row, size_t text_length)
+{
+    struct store store = { 1, text_length };
+
+    row.bits = 256;
+    key = 64;
+    time_calls(row, store);
+    row.bits = 128;
+    key = 48;
+    for (; store.slots <= LAGUNEDO_SLOT_LIMIT; store.slots *= GROWTH)
+        time_calls(row, store);
 }
 
 void time_store(const char *who)
 {
-    struct row row = { .who = who, .keying = "each", .bits = 128 };
-    struct store store;
+    struct row row = { .who = who, .keying = "each" };
 
     fill(old_key, sizeof old_key, 1);
     fill(new_key, sizeof new_key, 2);
     fill(text, sizeof text, 3);
     row.work = "short sheets";
-    store.text_length = LAGUNEDO_TEXT_LEAST;
-    time_calls(row, store);
+    time_sheets(row, LAGUNEDO_TEXT_LEAST);
     row.work = "long sheets";
-    store.text_length = LAGUNEDO_TEXT_MOST;
-    time_calls(row, store);
+    time_sheets(row, LAGUNEDO_TEXT_MOST);
 }

@@ -21,6 +21,7 @@ def parts(times: Times, machine: list[str]) -> dict[str, str]:
         "page": table("", four_heads(), [ours(times, "aes", PAGE), *peers(times, "aes", PAGE)]),
         "block": table("", four_heads(), [ours(times, "aes", BLOCK), slice_call(times), *peers(times, "aes", BLOCK)]),
         "sheet": table("", four_heads(), [ours(times, "eme2", SHEET), *peers(times, "eme2", SHEET)]),
+        "beside": table("", ["AES-128", "AES-256"], beside_rows(times)),
         "eme": table("", four_heads(), eme_rows(times)),
         "bytes": table("bytes", four_heads(), bytes_rows(times)),
         "slots-long": table("slots", slot_heads(), slot_rows(times, "long sheets")),
@@ -76,6 +77,25 @@ def peers(times: Times, work: str, size: int, beside: str | None = None) -> list
         return [who, *four(cell)]
 
     return [row(who) for who in times.peers(work)]
+
+
+def beside_rows(times: Times) -> list[list[str]]:
+    """What the mode adds to AES, and the store to the mode: our own times on a sheet, each beside a smaller one of ours."""
+    bare = {way: ("eme2", way, SHEET) for way in ("encipher", "decipher")}
+    pairs = [
+        ("enciphering, beside AES over as many bytes", bare["encipher"], ("aes slice", "encipher", SHEET)),
+        ("deciphering, beside AES over as many bytes", bare["decipher"], ("aes slice", "decipher", SHEET)),
+        ("read, beside deciphering", ("long sheets", "read", 1), bare["decipher"]),
+        ("add, beside enciphering", ("long sheets", "add", 1), bare["encipher"]),
+        ("revise, beside enciphering", ("long sheets", "revise", 1), bare["encipher"]),
+        ("a step that converts, beside enciphering", ("long sheets", "rekey", 1), bare["encipher"]),
+    ]
+
+    def cell(over: tuple[str, str, int], under: tuple[str, str, int], bits: int) -> str:
+        time, beside = (times.ours(Case(work, call, bits, size)) for work, call, size in (over, under))
+        return f"{time / beside:.2f}"
+
+    return [[name, *(cell(over, under, bits) for bits in (128, 256))] for name, over, under in pairs]
 
 
 def eme_rows(times: Times) -> list[list[str]]:

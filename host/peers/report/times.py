@@ -1,4 +1,4 @@
-"""The times of a run: one row for each case in each round, as host/peers/row.h describes them."""
+"""The times of a run: one row for each case in each round, as host/peers/bench.h describes them."""
 
 from statistics import median
 from typing import NamedTuple

@@ -1,12 +1,11 @@
 //! What the store promises of a single sheet, without the second
-//! implementation.
+//! implementation's calls.
 
 use inputs::Random;
 use lagunedo::{add, read, revise, step, Outcome};
+use second::record::{LEAD, RECORD};
 
 const SEED: u64 = 0x0057_041a_3500;
-
-const RECORD: usize = 2_112;
 
 /// What is written is read again, for every small length and the longest.
 #[test]
@@ -23,7 +22,7 @@ fn every_length() {
         let found = read(&keys[0], &keys[1], &store, 7, &mut buffer).expect("a sheet");
         assert_eq!((found.length as usize, found.revision), (length, seen + 1));
         assert_eq!(buffer, text, "{length} bytes");
-        assert_ne!(store[16..][..length], text, "{length} bytes in clear");
+        assert_ne!(store[LEAD..][..length], text, "{length} bytes in clear");
     }
 }
 

@@ -2,41 +2,66 @@
 //! memory then holds what it held. 01's order is held to by every set of
 //! faults that a call can have at once: the first in the order is answered.
 
-mod calls;
+mod ways;
 
-use calls::{agree, Call, Memory, What, FAULT, ORDER, RECORD};
 use inputs::Random;
 use lagunedo::Refusal;
+use second::record::{Lead, CLEAR, LEAD, OLD};
+use ways::{agree, Call, Memory, What, FAULT, RECORD};
 
 const SEED: u64 = 0x0057_04eb_ad00;
+
+/// The orders of the store's calls; a step with its job lent has that of a
+/// step.
+const ORDER: &[(What, &[u32])] = calls::ORDER.split_at(4).1.split_at(6).0;
 
 /// The sheet that is asked for, and the slot where it stands.
 const SHEET: u32 = 305;
 const SLOT: usize = 2;
 
 /// Numbers of slots that nobody asks for.
-const OTHERS: u8 = 100;
+const OTHERS: u32 = 100;
+
+/// The fields of a sheet of 20 bytes.
+fn sheet(sheet: u32, revision: u16, mark: u8) -> Lead {
+    Lead {
+        sheet,
+        revision,
+        mark,
+        length: 20,
+    }
+}
+
+/// Changes the fields of a slot, and no other byte of it.
+fn change(store: &mut [u8], slot: usize, change: impl FnOnce(&mut Lead)) {
+    let record = &mut store[slot * RECORD..][..RECORD];
+    let mut lead = Lead::of(record);
+    change(&mut lead);
+    lead.put(record);
+}
 
 /// A call that is not refused, and its memory: five slots, of which slot 1 is
 /// free. For add, nobody has the sheet.
 fn good(what: What, random: &mut Random) -> (Call, Memory) {
     let mut store = vec![0; 5 * RECORD];
     for (number, slot) in (OTHERS..).zip(store.chunks_mut(RECORD)) {
-        slot[..10].copy_from_slice(&[number, 0, 0, 0, 2, 0, 0, 0, 20, 0]);
-        random.fill(&mut slot[16..36]);
+        let lead = sheet(number, 2, CLEAR);
+        lead.put(slot);
+        random.fill(&mut slot[LEAD..lead.text_end()]);
     }
     store[RECORD..2 * RECORD].fill(0);
     if what != What::Add {
-        store[SLOT * RECORD..][..4].copy_from_slice(&SHEET.to_le_bytes());
+        change(&mut store, SLOT, |lead| lead.sheet = SHEET);
     }
     let call = Call {
         what,
-        old_key: random.bytes(48),
-        new_key: random.bytes(64),
         sheet: SHEET,
         seen: 2,
     };
     let memory = Memory {
+        old_key: random.bytes(48),
+        new_key: random.bytes(64),
+        data: vec![],
         store,
         text: random.bytes(20),
         place: 3,
@@ -52,14 +77,11 @@ const WAYS: usize = 4;
 /// that faults later in the order were brought about before.
 fn spoil(call: &mut Call, memory: &mut Memory, number: u32, way: usize) {
     let store = &mut memory.store;
-    let slot = |store: &mut Vec<u8>, at: usize, bytes: &[u8]| {
-        store[SLOT * RECORD + at..][..bytes.len()].copy_from_slice(bytes);
-    };
     match number {
         1 => {
             let lengths = [(47, 64), (48, 65), (0, 0), (32, 16)][way];
-            call.old_key.resize(lengths.0, 7);
-            call.new_key.resize(lengths.1, 7);
+            memory.old_key.resize(lengths.0, 7);
+            memory.new_key.resize(lengths.1, 7);
         }
         4 => {
             let length = store.len();
@@ -69,20 +91,20 @@ fn spoil(call: &mut Call, memory: &mut Memory, number: u32, way: usize) {
         5 => call.sheet = 0,
         6 => memory.text.resize([15, 2_097, 0, 65_552][way], 7),
         7 => {
-            for (number, slot) in (OTHERS..).zip(store.chunks_mut(RECORD)) {
-                slot[..4].copy_from_slice(&[number, 0, 0, 0]);
+            for (number, slot) in (OTHERS..).zip(0..store.len() / RECORD) {
+                change(store, slot, |lead| lead.sheet = number);
             }
         }
         8 => call.seen = [call.seen + 1, call.seen - 1, call.seen + 65_536, 0][way],
         9 => {
-            slot(store, 4, &[255, 255]);
+            change(store, SLOT, |lead| lead.revision = 65_535);
             call.seen = 65_535;
         }
-        10 => store[RECORD] = OTHERS + 1,
-        11 => slot(store, 0, &SHEET.to_le_bytes()),
+        10 => change(store, 1, |lead| lead.sheet = OTHERS + 1),
+        11 => change(store, SLOT, |lead| lead.sheet = SHEET),
         12 => {
             let (at, byte) = [(6, 3), (7, 1), (15, 255), (RECORD - 1, 1)][way];
-            slot(store, at, &[byte]);
+            store[SLOT * RECORD + at] = byte;
         }
         13 => memory.text.truncate([19, 0, 1, 16][way]),
         _ => unreachable!("no call is refused with {number}"),
@@ -119,7 +141,7 @@ fn every_set(what: What, order: &[u32]) -> [usize; 15] {
 /// with or without each of those behind it.
 #[test]
 fn order() {
-    for (what, order) in ORDER {
+    for &(what, order) in ORDER {
         let mut wanted = [0; 15];
         wanted[0] = WAYS;
         for (n, number) in order.iter().enumerate() {
@@ -132,7 +154,7 @@ fn order() {
 /// A key of every length but the two, in the place of either.
 #[test]
 fn keys() {
-    for (what, order) in ORDER {
+    for &(what, order) in ORDER {
         if order[0] != 1 {
             continue;
         }
@@ -140,11 +162,11 @@ fn keys() {
         for length in (0..=70).chain([80, 96, 112, 128, 2_112]) {
             for old in [false, true] {
                 let mut random = Random::new(SEED + length as u64);
-                let (mut call, memory) = good(what, &mut random);
+                let (call, mut memory) = good(what, &mut random);
                 let key = if old {
-                    &mut call.old_key
+                    &mut memory.old_key
                 } else {
-                    &mut call.new_key
+                    &mut memory.new_key
                 };
                 *key = random.bytes(length);
                 let name = || format!("key of {length} bytes, old {old}");
@@ -206,9 +228,11 @@ fn buffers() {
             let mut random = Random::new(SEED + buffer as u64);
             let (call, mut memory) = good(What::Read, &mut random);
             let slot = &mut memory.store[SLOT * RECORD..][..RECORD];
-            slot[8..10].copy_from_slice(&length.to_le_bytes());
-            slot[16..].fill(0);
-            random.fill(&mut slot[16..16 + usize::from(length)]);
+            let mut lead = Lead::of(slot);
+            lead.length = length;
+            lead.put(slot);
+            slot[LEAD..].fill(0);
+            random.fill(&mut slot[LEAD..lead.text_end()]);
             memory.text = random.bytes(buffer);
             let name = || format!("text of {length} bytes, buffer of {buffer}");
             let (number, after) = agree(&call, &memory, buffer, &name);
@@ -260,10 +284,15 @@ fn unsound() {
                 let mut random = Random::new(SEED + n as u64);
                 let (mut call, mut memory) = good(what, &mut random);
                 let here = &mut memory.store[slot * RECORD..][..RECORD];
-                here[6] = (n % 3) as u8;
+                let mark = (n % 3) as u8;
+                Lead {
+                    mark,
+                    ..Lead::of(here)
+                }
+                .put(here);
                 here[at] = byte;
-                call.sheet = u32::from_le_bytes([here[0], here[1], here[2], here[3]]);
-                call.seen = u32::from(here[4]);
+                call.sheet = Lead::of(here).sheet;
+                call.seen = u32::from(Lead::of(here).revision);
                 memory.place = slot as u64;
                 let name = || format!("slot {slot}, byte {at} is {byte}");
                 let (number, after) = agree(&call, &memory, n, &name);
@@ -305,10 +334,7 @@ fn free_but_for_a_byte() {
 }
 
 /// Makes a slot faulty: unsound, or used and with the number of slot 0.
-const FAULTS: [fn(&mut [u8]); 2] = [
-    |slot| slot[7] = 1,
-    |slot| slot[..10].copy_from_slice(&[OTHERS, 0, 0, 0, 1, 0, 1, 0, 20, 0]),
-];
+const FAULTS: [fn(&mut [u8]); 2] = [|slot| slot[7] = 1, |slot| sheet(OTHERS, 1, OLD).put(slot)];
 
 /// Check answers the lower of two faults, of which either may be a number
 /// that stands twice, and keeps the counts; or else refuses the store's size.
@@ -351,9 +377,10 @@ fn lower_of_two() {
             (What::Add, 11),
         ] {
             let (mut call, mut memory) = good(what, &mut Random::new(SEED));
-            call.sheet = u32::from(OTHERS);
-            memory.store[3 * RECORD] = OTHERS;
-            memory.store[3 * RECORD + 4] = 9;
+            call.sheet = OTHERS;
+            change(&mut memory.store, 3, |lead| {
+                (lead.sheet, lead.revision) = (OTHERS, 9)
+            });
             memory.store[7] = u8::from(unsound);
             let name = || format!("unsound {unsound}");
             let (number, after) = agree(&call, &memory, 0, &name);
@@ -372,11 +399,11 @@ fn lower_of_two() {
 #[test]
 fn last_revision() {
     let (mut call, mut memory) = good(What::Revise, &mut Random::new(SEED));
-    memory.store[SLOT * RECORD + 4..][..2].copy_from_slice(&[254, 255]);
+    change(&mut memory.store, SLOT, |lead| lead.revision = 65_534);
     call.seen = 65_534;
     let (number, after) = agree(&call, &memory, 0, &|| "65,534".to_owned());
     assert_eq!((number, after.words[0]), (0, 65_535));
-    assert_eq!(after.store[SLOT * RECORD + 4..][..2], [255, 255]);
+    assert_eq!(Lead::of(&after.store[SLOT * RECORD..]).revision, 65_535);
     for (seen, wanted) in [
         (65_535, 9),
         (65_534, 8),

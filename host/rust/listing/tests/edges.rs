@@ -1,6 +1,6 @@
 //! Both sides of each edge of 01's listing.
 
-use listing::{listed, listed_from_file, Slot, RECORD};
+use listing::{listed, listed_from_file, Lead, Slot, RECORD};
 
 /// 01: at most 31 slots.
 const MOST: usize = 31 * RECORD;
@@ -25,7 +25,7 @@ fn empty_input() {
 /// Every slot used, every mark, and the ends of every field's range.
 #[test]
 fn every_mark_in_31_slots() {
-    let slots: Vec<Slot> = (0..31).map(wide_slot).collect();
+    let slots: Vec<Lead> = (0..31).map(wide_slot).collect();
     let store: Vec<u8> = slots.iter().flat_map(|slot| slot.bytes()).collect();
     assert_eq!(store.len(), MOST);
     let lines = slots.iter().enumerate().map(|(k, slot)| slot.line(k));
@@ -34,9 +34,9 @@ fn every_mark_in_31_slots() {
 }
 
 /// Slot k of a store whose numbers of every size are all different.
-fn wide_slot(k: u8) -> Slot {
+fn wide_slot(k: u8) -> Lead {
     let pick = |from: [u16; 4]| from[usize::from(k) % 4];
-    Slot {
+    Lead {
         sheet: u32::MAX >> k,
         revision: pick([1, 65_535, 10, 9_999]),
         mark: k % 3,
@@ -47,14 +47,14 @@ fn wide_slot(k: u8) -> Slot {
 /// Free slots have no line, and the others keep their numbers.
 #[test]
 fn free_slots_between() {
-    let slot = Slot {
+    let slot = Lead {
         sheet: 7,
         revision: 1,
         mark: 2,
         length: 16,
     };
     let free = || vec![0; RECORD];
-    let last = Slot { sheet: 1, ..slot };
+    let last = Lead { sheet: 1, ..slot };
     let store = [free(), slot.bytes(), free(), free(), last.bytes(), free()].concat();
     let expected = slot.line(1) + &last.line(4) + "used 2 free 4 clear 0 old 0 new 2\n";
     assert_eq!(listed(&store), expected);

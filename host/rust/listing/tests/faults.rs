@@ -1,9 +1,9 @@
 //! Each kind of fault that 01 knows gives one line, and nothing of the slots
 //! before it.
 
-use listing::{listed, Slot, RECORD};
+use listing::{listed, Lead, Slot, RECORD};
 
-const SOUND: Slot = Slot {
+const SOUND: Lead = Lead {
     sheet: 305,
     revision: 2,
     mark: 0,
@@ -12,7 +12,7 @@ const SOUND: Slot = Slot {
 
 /// The slot after two used ones and a free one, and before another.
 fn among(slot: &[u8]) -> Vec<u8> {
-    let [first, second, last] = [1, 2, 3].map(|sheet| Slot { sheet, ..SOUND }.bytes());
+    let [first, second, last] = [1, 2, 3].map(|sheet| Lead { sheet, ..SOUND }.bytes());
     [&first, &vec![0; RECORD], &second, slot, &last].concat()
 }
 
@@ -22,7 +22,7 @@ fn at_fault(slot: &[u8], name: &str) {
     assert_eq!(listed(&among(slot)), "fault at 3\n", "{name}");
 }
 
-fn fields_at_fault(slot: Slot) {
+fn fields_at_fault(slot: Lead) {
     at_fault(&slot.bytes(), &format!("{slot:?}"));
 }
 
@@ -37,20 +37,20 @@ fn sound_before() {
 #[test]
 fn revision() {
     let revision = 0;
-    fields_at_fault(Slot { revision, ..SOUND });
+    fields_at_fault(Lead { revision, ..SOUND });
 }
 
 #[test]
 fn mark() {
     for mark in [3, 4, 128, 255] {
-        fields_at_fault(Slot { mark, ..SOUND });
+        fields_at_fault(Lead { mark, ..SOUND });
     }
 }
 
 #[test]
 fn length() {
     for length in [0, 15, 2_097, 2_112, 65_535] {
-        fields_at_fault(Slot { length, ..SOUND });
+        fields_at_fault(Lead { length, ..SOUND });
     }
 }
 
@@ -80,9 +80,9 @@ fn zeros_of_a_free_slot() {
 /// nothing.
 #[test]
 fn repeated_number() {
-    let repeated = Slot { sheet: 2, ..SOUND };
+    let repeated = Lead { sheet: 2, ..SOUND };
     assert_eq!(listed(&among(&repeated.bytes())), "fault at 3\n");
-    let later = Slot { sheet: 3, ..SOUND };
+    let later = Lead { sheet: 3, ..SOUND };
     assert_eq!(listed(&among(&later.bytes())), "fault at 4\n");
     let again = SOUND.bytes().repeat(31);
     assert_eq!(listed(&again), "fault at 1\n");
@@ -91,7 +91,7 @@ fn repeated_number() {
 /// Of several faults the lowest, also where it is in the last slot of all.
 #[test]
 fn lowest_of_several() {
-    let bad = Slot { mark: 3, ..SOUND };
+    let bad = Lead { mark: 3, ..SOUND };
     assert_eq!(listed(&bad.bytes().repeat(4)), "fault at 0\n");
     let mut store = vec![0; 31 * RECORD];
     store[31 * RECORD - 1] = 1;

@@ -1,6 +1,6 @@
 //! An input that comes slowly and in pieces is listed as it is at once.
 
-use listing::{listed, listed_in_pieces, Slot, RECORD};
+use listing::{listed, listed_in_pieces, Lead, Slot, RECORD};
 use std::time::Duration;
 
 /// Long enough that the program mostly reads each piece by itself. What it
@@ -12,7 +12,7 @@ const PIECES: [usize; 9] = [1, 1, 1_000, 2_111, 2_112, 4_095, 4_096, 4_097, 1];
 
 /// A store of 31 slots, every third one free.
 fn store() -> Vec<u8> {
-    let slot = |k| Slot {
+    let slot = |k| Lead {
         sheet: 1_000 + k,
         revision: 7,
         mark: (k % 2) as u8 + 1,

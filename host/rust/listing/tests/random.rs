@@ -1,8 +1,9 @@
 //! Random stores against the listing of the second implementation.
 
 use inputs::Random;
-use listing::{listed, Slot, RECORD};
+use listing::{listed, Lead, Slot, RECORD};
 use second::listing;
+use second::record::LEAD;
 
 /// A failing store prints its own seed.
 const SEED: u64 = 0x0115_7e0d_0000;
@@ -34,9 +35,9 @@ fn store(random: &mut Random) -> Vec<u8> {
 
 /// A sound slot with numbers of every size; sheet numbers differ by their
 /// last five bits.
-fn sound(random: &mut Random, k: u32) -> Slot {
+fn sound(random: &mut Random, k: u32) -> Lead {
     let sheet = random.word() as u32 >> below(random, 27);
-    Slot {
+    Lead {
         sheet: (sheet & !31 | k).max(32),
         revision: 1 + (below(random, 65_535) >> below(random, 16)) as u16,
         mark: below(random, 3) as u8,
@@ -53,7 +54,7 @@ fn damage(random: &mut Random, store: &mut [u8]) {
     let at = if below(random, 2) == 0 {
         at
     } else {
-        at - at % RECORD + at % 16
+        at - at % RECORD + at % LEAD
     };
     store[at] ^= 1 << below(random, 8);
 }

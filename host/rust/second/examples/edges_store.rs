@@ -4,6 +4,7 @@
 //! the rekeying job. A test holds `crates/edges_store/stdout` to what is
 //! written here.
 
+use second::record::{LEAD, RECORD};
 use second::{add, check, eme2, read, remove, revise, step, Checked, Counts, Keys};
 
 /// The calls to make, a line each.
@@ -13,7 +14,7 @@ const SCRIPT: &str = include_str!("../../../../crates/edges_store/stdin");
 const BEFORE: u32 = 9;
 
 /// Bytes of 1,025 slots, the longest store of the script.
-const MOST: usize = 1_025 * 2_112;
+const MOST: usize = 1_025 * RECORD;
 
 /// What the script works on: the keys, and a store at the front of the bytes.
 struct Desk {
@@ -78,7 +79,7 @@ impl Desk {
             }
             "seal" => {
                 let record = &mut self.bytes[as_usize(n[0])..][..as_usize(n[1])];
-                let (lead, text) = record.split_at_mut(16);
+                let (lead, text) = record.split_at_mut(LEAD);
                 assert_eq!(eme2(&self.old, false, lead, text), 0);
             }
             _ => assert_eq!(word, "#"),

@@ -1,7 +1,7 @@
 //! FIPS 197, sections 5.1 and 5.3: one block, both ways. The state is written
 //! as its four columns, so `s[c][r]` is the standard's s of row r, column c.
 
-use crate::field::times;
+use crate::field::PRODUCTS;
 use crate::schedule::Word;
 use crate::substitution::{inv_sub, sub};
 use std::array::from_fn;
@@ -87,5 +87,6 @@ fn inv_mix_columns(s: State) -> State {
 /// The matrix whose first row is given and whose every next row is the one
 /// above turned right by one, times a column.
 fn product(row: [u8; 4], column: [u8; 4]) -> [u8; 4] {
+    let times = |a: u8, b: u8| PRODUCTS[usize::from(b)][usize::from(a)];
     from_fn(|r| (0..4).fold(0, |sum, k| sum ^ times(column[k], row[(k + 4 - r) % 4])))
 }

@@ -37,3 +37,17 @@ pub const fn inverse(b: u8) -> u8 {
     }
     power
 }
+
+/// The products by each factor below 16, computed once: the matrices of the
+/// cipher have no other.
+pub static PRODUCTS: [[u8; 256]; 16] = products();
+
+const fn products() -> [[u8; 256]; 16] {
+    let mut table = [[0; 256]; 16];
+    let mut at = 0;
+    while at < 16 * 256 {
+        table[at / 256][at % 256] = times(at as u8, (at / 256) as u8);
+        at += 1;
+    }
+    table
+}

@@ -22,7 +22,7 @@ mod eme2;
 mod field;
 mod listing;
 mod numbers;
-mod record;
+pub mod record;
 mod schedule;
 mod slip;
 mod step;

@@ -44,7 +44,7 @@ pub fn step(keys: Keys, store: &mut [u8], place: &mut u64) -> Result<Outcome, u3
     }
     let (sheet, revision) = (record::sheet(slot), record::revision(slot));
     let text = record::text(slot, keys);
-    let converted = record::written(sheet, revision, &text, keys.new);
+    let converted = record::written(sheet, revision, NEW, &text, keys);
     put(store, k, &converted);
     Ok(Outcome::Converted)
 }

@@ -5,7 +5,7 @@ use crate::numbers::{
     BUFFER_LENGTH, FULL, KEY_LENGTH, LAST_REVISION, NOT_FOUND, OTHER_REVISION, SHEET_ZERO,
     STORE_LENGTH, TAKEN, TEXT_LENGTH, UNSOUND,
 };
-use crate::record::{self, Keys, CLEAR, LONGEST, OLD, RECORD, SHORTEST};
+use crate::record::{self, Keys, CLEAR, LONGEST, NEW, OLD, RECORD, SHORTEST};
 
 /// The most slots that a store has.
 const MOST: usize = 1_024;
@@ -109,7 +109,7 @@ pub fn add(keys: Keys, store: &mut [u8], sheet: u32, text: &[u8]) -> Result<u32,
         return Err(TAKEN);
     }
     let k = lowest(&slots, 0).ok_or(FULL)?;
-    put(store, k, &record::written(sheet, 1, text, keys.new));
+    put(store, k, &record::written(sheet, 1, NEW, text, keys));
     Ok(1)
 }
 
@@ -137,7 +137,7 @@ pub fn revise(
         return Err(OTHER_REVISION);
     }
     let revision = stored.checked_add(1).ok_or(LAST_REVISION)?;
-    put(store, k, &record::written(sheet, revision, text, keys.new));
+    put(store, k, &record::written(sheet, revision, NEW, text, keys));
     Ok(u32::from(revision))
 }
 

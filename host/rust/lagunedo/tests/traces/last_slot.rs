@@ -2,7 +2,7 @@
 //! made as many steps as there are slots, no sheet is marked clear or old key.
 //! It is looked at in the bytes of the store alone.
 
-use crate::record::{mark, NEW_KEY, RECORD};
+use second::record::{self, NEW, RECORD};
 use std::collections::BTreeSet;
 
 /// A copy of the job.
@@ -95,18 +95,35 @@ impl LastSlot {
 fn left(store: &[u8]) -> Option<(usize, u8)> {
     let marks = store.chunks(RECORD).map(mark).enumerate();
     let mut used = marks.filter_map(|(slot, mark)| Some((slot, mark?)));
-    used.find(|(_, mark)| *mark != NEW_KEY)
+    used.find(|(_, mark)| *mark != NEW)
+}
+
+/// The mark of a slot, if it is used.
+pub fn mark(slot: &[u8]) -> Option<u8> {
+    (record::sheet(slot) != 0).then(|| record::mark(slot))
 }
 
 #[cfg(test)]
 mod tests {
     use super::*;
+    use second::record::{Lead, CLEAR, OLD};
+
+    /// Puts a sheet of the slot's own number there.
+    fn put(store: &mut [u8], slot: usize, mark: u8) {
+        let lead = Lead {
+            sheet: slot as u32 + 1,
+            revision: 1,
+            mark,
+            length: 16,
+        };
+        lead.put(&mut store[slot * RECORD..]);
+    }
 
     /// Two sheets in clear, and a copy that begins at a place.
     fn two_sheets(place: u64) -> (Vec<u8>, LastSlot) {
         let mut store = vec![0; 2 * RECORD];
-        store[0] = 1;
-        store[RECORD] = 2;
+        put(&mut store, 0, CLEAR);
+        put(&mut store, 1, CLEAR);
         let mut claim = LastSlot::new(&store);
         claim.began(place);
         (store, claim)
@@ -118,7 +135,7 @@ mod tests {
     #[should_panic(expected = "no copy converted")]
     fn idle_after_the_first_step() {
         let (mut store, mut claim) = two_sheets(0);
-        store[6] = NEW_KEY;
+        put(&mut store, 0, NEW);
         claim.stepped(0, true, &store);
         claim.holds(&store);
         claim.stepped(0, true, &store);
@@ -131,12 +148,12 @@ mod tests {
     fn back_under_the_old_key() {
         let (mut store, mut claim) = two_sheets(0);
         for slot in 0..2 {
-            store[slot * RECORD + 6] = NEW_KEY;
+            put(&mut store, slot, NEW);
             claim.stepped(0, true, &store);
         }
         claim.holds(&store);
         assert!(claim.reached() && claim.needed);
-        store[6] = 1;
+        put(&mut store, 0, OLD);
         claim.holds(&store);
     }
 

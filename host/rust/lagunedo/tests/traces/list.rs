@@ -26,13 +26,8 @@ pub struct List {
     pub places: Vec<Option<Sheet>>,
 }
 
-/// What an accepted call did to the list.
-#[derive(Clone, Copy, Debug, Eq, PartialEq)]
-pub struct Change {
-    pub place: usize,
-    /// 01: "Add and revise answer the revision now stored; remove answers 0."
-    pub answer: u32,
-}
+/// 01: "Add and revise answer the revision now stored; remove answers 0."
+type Answer = Result<u32, Refusal>;
 
 impl List {
     pub fn read(&self, number: u32, buffer: &mut [u8]) -> Result<Found, Refusal> {
@@ -47,7 +42,7 @@ impl List {
         })
     }
 
-    pub fn add(&mut self, number: u32, text: &[u8]) -> Result<Change, Refusal> {
+    pub fn add(&mut self, number: u32, text: &[u8]) -> Answer {
         asked(number)?;
         fits(text)?;
         if self.found(number).is_some() {
@@ -58,7 +53,7 @@ impl List {
         Ok(self.put(place, number, 1, text))
     }
 
-    pub fn revise(&mut self, number: u32, seen: u32, text: &[u8]) -> Result<Change, Refusal> {
+    pub fn revise(&mut self, number: u32, seen: u32, text: &[u8]) -> Answer {
         asked(number)?;
         fits(text)?;
         let (place, sheet) = self.found(number).ok_or(Refusal::NoSheet)?;
@@ -71,11 +66,11 @@ impl List {
         Ok(self.put(place, number, seen + 1, text))
     }
 
-    pub fn remove(&mut self, number: u32) -> Result<Change, Refusal> {
+    pub fn remove(&mut self, number: u32) -> Answer {
         asked(number)?;
         let (place, _) = self.found(number).ok_or(Refusal::NoSheet)?;
         self.places[place] = None;
-        Ok(Change { place, answer: 0 })
+        Ok(0)
     }
 
     /// The lowest place with the number, and what it holds.
@@ -85,16 +80,13 @@ impl List {
         sheets.find(|(_, sheet)| sheet.number == number)
     }
 
-    fn put(&mut self, place: usize, number: u32, revision: u32, text: &[u8]) -> Change {
+    fn put(&mut self, place: usize, number: u32, revision: u32, text: &[u8]) -> u32 {
         self.places[place] = Some(Sheet {
             number,
             revision,
             text: text.to_vec(),
         });
-        Change {
-            place,
-            answer: revision,
-        }
+        revision
     }
 }
 

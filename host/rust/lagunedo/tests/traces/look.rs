@@ -1,9 +1,10 @@
 //! What is looked at between the events of a trace, and at its end.
 
-use crate::list::LONGEST;
-use crate::record::{deciphered, mark, RECORD};
+use crate::last_slot::mark;
+use crate::list::{Sheet, LONGEST};
 use crate::trace::Trace;
 use lagunedo::{check, Checked, Counts};
+use second::record::{self, RECORD};
 
 impl Trace {
     /// What the store's texts decipher to is the list, and the store passes
@@ -12,7 +13,7 @@ impl Trace {
         let slots = self.store.chunks(RECORD);
         let mut marks = [0; 3];
         for ((k, record), sheet) in slots.enumerate().zip(&self.list.places) {
-            assert_eq!(deciphered(record, &self.keys), *sheet, "slot {k}");
+            assert_eq!(deciphered(record, self.keys.lent()), *sheet, "slot {k}");
             if let Some(mark) = mark(record) {
                 marks[usize::from(mark)] += 1;
             }
@@ -46,4 +47,13 @@ impl Trace {
             self.read_all(&other);
         }
     }
+}
+
+/// The sheet of a sound record, its text in clear.
+fn deciphered(record: &[u8], keys: second::Keys) -> Option<Sheet> {
+    mark(record).map(|_| Sheet {
+        number: record::sheet(record),
+        revision: record::revision(record).into(),
+        text: record::text(record, keys),
+    })
 }

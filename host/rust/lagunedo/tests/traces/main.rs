@@ -1,9 +1,10 @@
 //! Demand 3, run: random traces of whole calls, in any order, with several
 //! copies of the rekeying job interleaved, on a store that passes the check.
-//! Beside the store there is the plain list of 01, kept by the test. After
-//! each call the answer is the list's and every byte is 01's; the texts
-//! decipher to the list; the store passes the check; and the two claims of
-//! demand 3, on the last slot and on one of two revisions, hold.
+//! Beside the store there is the plain list of 01, kept by the test, and the
+//! store of the second implementation. After each call the answer is that of
+//! both and every byte is the second's; the texts decipher to the list; the
+//! store passes the check; and the two claims of demand 3, on the last slot and
+//! on one of two revisions, hold.
 //!
 //! A failing trace prints its seed and its event. It comes from its seed alone,
 //! and `make host-trace LAGUNEDO_TRACE=0x..` runs it by itself.
@@ -13,7 +14,6 @@ mod last_slot;
 mod list;
 mod look;
 mod one_of_two;
-mod record;
 mod run;
 mod script;
 mod start;

@@ -2,9 +2,24 @@
 //! copies of the job.
 
 use crate::list::{List, Sheet};
-use crate::record::{record, Keys, CLEAR, NEW_KEY, OLD_KEY};
 use crate::texts;
 use inputs::Random;
+use second::record::{written, CLEAR, NEW, OLD, RECORD};
+
+/// The two keys of a trace.
+pub struct Keys {
+    pub old: Vec<u8>,
+    pub new: Vec<u8>,
+}
+
+impl Keys {
+    pub fn lent(&self) -> second::Keys<'_> {
+        second::Keys {
+            old: &self.old,
+            new: &self.new,
+        }
+    }
+}
 
 pub struct Start {
     pub keys: Keys,
@@ -28,8 +43,11 @@ impl Start {
         let mut store = Vec::new();
         for number in random.some_of(numbers.clone(), slots) {
             let sheet = (!random.one_in(free)).then(|| sheet(random, number));
-            let mark = random.pick(&[CLEAR, OLD_KEY, NEW_KEY]);
-            store.extend(record(sheet.as_ref(), mark, &keys));
+            let mark = random.pick(&[CLEAR, OLD, NEW]);
+            store.extend(match &sheet {
+                Some(s) => written(s.number, s.revision as u16, mark, &s.text, keys.lent()),
+                None => vec![0; RECORD],
+            });
             places.push(sheet);
         }
         Self {

@@ -1,18 +1,19 @@
-//! A store and its plain list, with each call done on both.
+//! A store, its plain list and the second implementation's store, with each
+//! call done on all of them.
 
 use crate::event::Event;
 use crate::last_slot::LastSlot;
-use crate::list::{Change, List};
+use crate::list::List;
 use crate::one_of_two::OneOfTwo;
-use crate::record::{mark, record, Keys, NEW_KEY, RECORD};
-use crate::start::Start;
+use crate::start::{Keys, Start};
 use crate::tally::Answers;
 use lagunedo::{add, job_step, read, remove, revise, step, Found, Job, Outcome, Refusal};
+use second::record::RECORD;
 
 pub struct Trace {
     pub keys: Keys,
     pub store: Vec<u8>,
-    /// The bytes that 01 gives the store after the calls so far.
+    /// The second implementation's store after the calls so far.
     wanted: Vec<u8>,
     pub list: List,
     /// The places of the copies of the job.
@@ -41,29 +42,32 @@ impl Trace {
         trace
     }
 
-    /// Does an event on the store and on the list. The answers are the same,
-    /// the claims hold, and every byte of the store is as 01 has it.
+    /// Does an event on the store, on the list and on the second store. The
+    /// answers are the same, the claims hold, and so is every byte.
     pub fn event(&mut self, event: &Event) {
-        let Keys { old, new } = &self.keys;
-        let store = &mut self.store;
+        let keys = self.keys.lent();
+        let (store, wanted) = (&mut self.store, &mut self.wanted);
         let answer = match event {
-            Event::Read { sheet, buffer } => self.read(old, *sheet, buffer).map(|_| 0),
+            Event::Read { sheet, buffer } => self.read(keys.old, *sheet, buffer).map(|_| 0),
             Event::Add { sheet, text } => {
-                let answer = add(old, new, store, *sheet, text);
-                let wanted = self.list.add(*sheet, text);
-                self.changed(event.name(), answer, wanted)
+                let answer = add(keys.old, keys.new, store, *sheet, text);
+                let by_second = second::add(keys, wanted, *sheet, text);
+                let by_list = self.list.add(*sheet, text);
+                self.changed(event, answer, by_second, by_list)
             }
             Event::Revise { sheet, seen, text } => {
-                let answer = revise(old, new, store, *sheet, *seen, text);
+                let answer = revise(keys.old, keys.new, store, *sheet, *seen, text);
+                let by_second = second::revise(keys, wanted, *sheet, *seen, text);
                 self.one_of_two.revised(*sheet, *seen, answer);
-                let wanted = self.list.revise(*sheet, *seen, text);
-                self.changed(event.name(), answer, wanted)
+                let by_list = self.list.revise(*sheet, *seen, text);
+                self.changed(event, answer, by_second, by_list)
             }
             Event::Remove { sheet } => {
                 let answer = remove(store, *sheet).map(|()| 0);
+                let by_second = second::remove(wanted, *sheet).map(|()| 0);
                 self.one_of_two.removed(*sheet, answer);
-                let wanted = self.list.remove(*sheet);
-                self.changed(event.name(), answer, wanted)
+                let by_list = self.list.remove(*sheet);
+                self.changed(event, answer, by_second, by_list)
             }
             Event::Step { copy, lent } => Ok(self.step(*copy, *lent) as u32),
         };
@@ -89,36 +93,34 @@ impl Trace {
     /// After an add, a revision or a removal: 0, or why it was refused.
     fn changed(
         &mut self,
-        call: &'static str,
+        event: &Event,
         answer: Result<u32, Refusal>,
-        wanted: Result<Change, Refusal>,
+        by_second: Result<u32, u32>,
+        by_list: Result<u32, Refusal>,
     ) -> Result<u32, Refusal> {
-        assert_eq!(answer, wanted.map(|change| change.answer));
-        let place = wanted?.place;
-        self.write(place);
-        self.last_slot.changed(call);
+        assert_eq!(answer, by_list, "beside the list");
+        assert_eq!(answer.map_err(Refusal::number), by_second, "the second");
+        answer?;
+        self.last_slot.changed(event.name());
         Ok(0)
     }
 
-    /// The list keeps what it holds. The outcome is that of 01 for what stood
-    /// at the place.
+    /// The list keeps what it holds.
     fn step(&mut self, copy: usize, lent: bool) -> Outcome {
         if copy == self.copies.len() {
             self.begin(0);
         }
         let before = self.copies[copy];
-        let wanted = self.outcome(before);
+        let mut moved = before;
+        let wanted = second::step(self.keys.lent(), &mut self.wanted, &mut moved);
         let (answer, place) = self.make_step(before, lent);
-        assert_eq!(answer, Ok(wanted), "at place {before}");
-        let moved = u64::from(wanted != Outcome::Done);
-        assert_eq!(place, before + moved, "the place after {before}");
-        let converted = wanted == Outcome::Converted;
-        if converted {
-            self.write(before as usize);
-        }
+        let outcome = answer.expect("keys and a store that 01 takes");
+        assert_eq!(Ok(outcome as u32), wanted.map(|w| w as u32), "at {before}");
+        assert_eq!(place, moved, "the place after {before}");
         self.copies[copy] = place;
+        let converted = outcome == Outcome::Converted;
         self.last_slot.stepped(copy, converted, &self.store);
-        wanted
+        outcome
     }
 
     /// By value or with its job lent.
@@ -133,29 +135,9 @@ impl Trace {
         (answer, place)
     }
 
-    /// What 01 has a step answer. None is damaged, since the store is sound.
-    fn outcome(&self, place: u64) -> Outcome {
-        let mut slots = self.wanted.chunks(RECORD);
-        let at = usize::try_from(place).ok();
-        match at.and_then(|at| slots.nth(at)).map(mark) {
-            None => Outcome::Done,
-            Some(None) => Outcome::Free,
-            Some(Some(NEW_KEY)) => Outcome::Already,
-            Some(Some(_)) => Outcome::Converted,
-        }
-    }
-
-    /// Brings the wanted bytes of a slot up to the list. Whatever a call
-    /// writes is under the new key.
-    fn write(&mut self, place: usize) {
-        let sheet = self.list.places[place].as_ref();
-        let slot = &mut self.wanted[place * RECORD..][..RECORD];
-        slot.copy_from_slice(&record(sheet, NEW_KEY, &self.keys));
-    }
-
     fn same_bytes(&self) {
         let mut slots = self.store.chunks(RECORD).zip(self.wanted.chunks(RECORD));
         let other = slots.position(|(ours, wanted)| ours != wanted);
-        assert_eq!(other, None, "a slot whose bytes are not those of 01");
+        assert_eq!(other, None, "a slot whose bytes are not the second's");
     }
 }
