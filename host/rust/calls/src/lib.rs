@@ -7,12 +7,10 @@ mod library;
 mod safe;
 mod second;
 
+pub use lagunedo::FAULT;
 pub use library::by_library;
 pub use safe::by_safe;
 pub use second::by_second;
-
-/// What check returns where a slot is faulty.
-pub const FAULT: u32 = 256;
 
 /// The calls.
 #[derive(Clone, Copy, Debug, Eq, Ord, PartialEq, PartialOrd)]

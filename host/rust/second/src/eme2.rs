@@ -8,7 +8,7 @@
 use crate::cipher::{cipher, inv_cipher};
 use crate::schedule::key_expansion;
 use crate::slip::Slip;
-use crate::{ASSOCIATED_LENGTH, KEY_LENGTH, MESSAGE_LENGTH};
+use crate::{DATA_LENGTH, KEY_LENGTH, MESSAGE_LENGTH};
 use std::array::from_fn;
 use std::ops::RangeInclusive;
 
@@ -34,7 +34,7 @@ pub fn eme2_with(slip: Option<Slip>, key: &[u8], back: bool, ad: &[u8], message:
         return MESSAGE_LENGTH;
     }
     if ad.len() > 1_024 {
-        return ASSOCIATED_LENGTH;
+        return DATA_LENGTH;
     }
     let [key1, key2, key3] = parts(key);
     let w = key_expansion(key1);

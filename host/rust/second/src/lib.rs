@@ -32,9 +32,8 @@ mod substitution;
 pub use eme2::{double, eme2, eme2_with, new_masks, wide, MESSAGE};
 pub use listing::listing;
 pub use numbers::{
-    ASSOCIATED_LENGTH, BLOCK_LENGTH, BUFFER_LENGTH, FULL, KEY_LENGTH, LAST_REVISION,
-    MESSAGE_LENGTH, NOT_FOUND, OTHER_REVISION, SHEET_ZERO, STORE_LENGTH, TAKEN, TEXT_LENGTH,
-    UNSOUND,
+    BUFFER_LENGTH, DATA_LENGTH, KEY_LENGTH, LAST_REVISION, MESSAGE_LENGTH, NO_FREE_SLOT, NO_SHEET,
+    OTHER_REVISION, SHEET_PRESENT, SHEET_ZERO, SLOT_UNSOUND, STORE_LENGTH, TEXT_LENGTH,
 };
 pub use record::Keys;
 pub use slip::Slip;
@@ -49,7 +48,7 @@ pub fn aes(key: &[u8], back: bool, block: &mut [u8]) -> u32 {
         return KEY_LENGTH;
     }
     let Ok(block) = <&mut [u8; 16]>::try_from(block) else {
-        return BLOCK_LENGTH;
+        return MESSAGE_LENGTH;
     };
     let round_keys = schedule::key_expansion(key);
     *block = if back {

@@ -1,14 +1,14 @@
-//! 01, "Numbers returned in place of a result". Number 14 is never returned:
-//! deciphering keeps the length of a text.
+//! 01, "Numbers returned in place of a result", under the names of
+//! `lagunedo.h`. Number 14 is never returned: deciphering keeps the length of a
+//! text.
 
 /// 01: a key given is not 48 or 64 bytes (AES alone: 16 or 32).
 pub const KEY_LENGTH: u32 = 1;
-/// 01: the block is not 16 bytes.
-pub const BLOCK_LENGTH: u32 = 2;
-/// 01: the message is below 16 or above 65,536 bytes.
+/// 01: the message is below 16 or above 65,536 bytes (AES alone: the block is
+/// not 16).
 pub const MESSAGE_LENGTH: u32 = 2;
 /// 01: the associated data is above 1,024 bytes.
-pub const ASSOCIATED_LENGTH: u32 = 3;
+pub const DATA_LENGTH: u32 = 3;
 /// 01: the store is not a whole number of records, or over 1,024.
 pub const STORE_LENGTH: u32 = 4;
 /// 01: sheet number 0 asked for.
@@ -16,16 +16,16 @@ pub const SHEET_ZERO: u32 = 5;
 /// 01: the text is below 16 or above 2,096 bytes.
 pub const TEXT_LENGTH: u32 = 6;
 /// 01: no slot has the sheet number.
-pub const NOT_FOUND: u32 = 7;
+pub const NO_SHEET: u32 = 7;
 /// 01: the revision named is not the stored one.
 pub const OTHER_REVISION: u32 = 8;
 /// 01: the stored revision is 65,535.
 pub const LAST_REVISION: u32 = 9;
 /// 01: no slot has sheet number 0.
-pub const FULL: u32 = 10;
+pub const NO_FREE_SLOT: u32 = 10;
 /// 01: the sheet number is already in a slot.
-pub const TAKEN: u32 = 11;
+pub const SHEET_PRESENT: u32 = 11;
 /// 01: the slot found is unsound.
-pub const UNSOUND: u32 = 12;
+pub const SLOT_UNSOUND: u32 = 12;
 /// 01: the lent buffer is shorter than the text.
 pub const BUFFER_LENGTH: u32 = 13;

@@ -2,8 +2,8 @@
 //! the order that 01 lists for it. A refused call has changed nothing.
 
 use crate::numbers::{
-    BUFFER_LENGTH, FULL, KEY_LENGTH, LAST_REVISION, NOT_FOUND, OTHER_REVISION, SHEET_ZERO,
-    STORE_LENGTH, TAKEN, TEXT_LENGTH, UNSOUND,
+    BUFFER_LENGTH, KEY_LENGTH, LAST_REVISION, NO_FREE_SLOT, NO_SHEET, OTHER_REVISION,
+    SHEET_PRESENT, SHEET_ZERO, SLOT_UNSOUND, STORE_LENGTH, TEXT_LENGTH,
 };
 use crate::record::{self, Keys, CLEAR, LONGEST, NEW, OLD, RECORD, SHORTEST};
 
@@ -106,9 +106,9 @@ pub fn add(keys: Keys, store: &mut [u8], sheet: u32, text: &[u8]) -> Result<u32,
     named(sheet)?;
     fits(text)?;
     if lowest(&slots, sheet).is_some() {
-        return Err(TAKEN);
+        return Err(SHEET_PRESENT);
     }
-    let k = lowest(&slots, 0).ok_or(FULL)?;
+    let k = lowest(&slots, 0).ok_or(NO_FREE_SLOT)?;
     put(store, k, &record::written(sheet, 1, NEW, text, keys));
     Ok(1)
 }
@@ -194,13 +194,13 @@ fn fits(text: &[u8]) -> Result<(), u32> {
 /// Numbers 5 and 7, or the lowest slot with the number.
 fn found(slots: &[&[u8]], sheet: u32) -> Result<usize, u32> {
     named(sheet)?;
-    lowest(slots, sheet).ok_or(NOT_FOUND)
+    lowest(slots, sheet).ok_or(NO_SHEET)
 }
 
 /// Number 12, of one slot: a repeated number is no fault here.
 fn sound(slot: &[u8]) -> Result<(), u32> {
     if !record::sound(slot) {
-        return Err(UNSOUND);
+        return Err(SLOT_UNSOUND);
     }
     Ok(())
 }

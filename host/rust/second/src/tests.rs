@@ -4,7 +4,7 @@ use crate::cipher::{cipher, inv_cipher};
 use crate::field::{inverse, times};
 use crate::schedule::key_expansion;
 use crate::substitution::{INV_S_BOX, S_BOX};
-use crate::{aes, BLOCK_LENGTH, KEY_LENGTH};
+use crate::{aes, KEY_LENGTH, MESSAGE_LENGTH};
 use inputs::{from_hex, lines, nist, Random};
 
 /// One block under a key of any of the standard's sizes.
@@ -117,7 +117,7 @@ fn refusals() {
             let before = random.bytes(block_length);
             let wanted = match (key_length, block_length) {
                 (16 | 32, 16) => continue,
-                (16 | 32, _) => BLOCK_LENGTH,
+                (16 | 32, _) => MESSAGE_LENGTH,
                 _ => KEY_LENGTH,
             };
             for back in [false, true] {

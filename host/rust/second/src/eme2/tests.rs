@@ -4,7 +4,7 @@
 use super::{associated, double, pad, parts, split, Block};
 use crate::cipher::{cipher, inv_cipher};
 use crate::schedule::key_expansion;
-use crate::{eme2, wide, ASSOCIATED_LENGTH, KEY_LENGTH, MESSAGE_LENGTH};
+use crate::{eme2, wide, DATA_LENGTH, KEY_LENGTH, MESSAGE_LENGTH};
 use inputs::{from_hex, lines, Random};
 use std::cell::Cell;
 
@@ -277,7 +277,7 @@ fn refusals() {
             for ad_length in [0, 1, 15, 16, 17, 1_024, 1_025] {
                 let wanted = match (key_length, length, ad_length) {
                     (48 | 64, 16..=65_536, 0..=1_024) => 0,
-                    (48 | 64, 16..=65_536, _) => ASSOCIATED_LENGTH,
+                    (48 | 64, 16..=65_536, _) => DATA_LENGTH,
                     (48 | 64, _, _) => MESSAGE_LENGTH,
                     _ => KEY_LENGTH,
                 };

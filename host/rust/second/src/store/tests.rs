@@ -2,8 +2,8 @@
 
 use super::{add, check, read, remove, revise, Checked, Counts, Found};
 use crate::numbers::{
-    BUFFER_LENGTH, FULL, KEY_LENGTH, LAST_REVISION, NOT_FOUND, OTHER_REVISION, SHEET_ZERO,
-    STORE_LENGTH, TAKEN, TEXT_LENGTH, UNSOUND,
+    BUFFER_LENGTH, KEY_LENGTH, LAST_REVISION, NO_FREE_SLOT, NO_SHEET, OTHER_REVISION,
+    SHEET_PRESENT, SHEET_ZERO, SLOT_UNSOUND, STORE_LENGTH, TEXT_LENGTH,
 };
 use crate::record::RECORD;
 use crate::{eme2, Keys};
@@ -73,10 +73,10 @@ fn example_of_01() {
 #[test]
 fn empty() {
     assert_eq!(check(&[]), sound(0, 0, [0, 0, 0]));
-    assert_eq!(read(KEYS, &[], 1, &mut []), Err(NOT_FOUND));
-    assert_eq!(add(KEYS, &mut [], 1, PRESS), Err(FULL));
-    assert_eq!(revise(KEYS, &mut [], 1, 1, PRESS), Err(NOT_FOUND));
-    assert_eq!(remove(&mut [], 1), Err(NOT_FOUND));
+    assert_eq!(read(KEYS, &[], 1, &mut []), Err(NO_SHEET));
+    assert_eq!(add(KEYS, &mut [], 1, PRESS), Err(NO_FREE_SLOT));
+    assert_eq!(revise(KEYS, &mut [], 1, 1, PRESS), Err(NO_SHEET));
+    assert_eq!(remove(&mut [], 1), Err(NO_SHEET));
 }
 
 /// The slot's bytes by hand: the lead, the text under the new key with that
@@ -106,7 +106,7 @@ fn added() {
 #[test]
 fn freed() {
     let mut store = full(4);
-    assert_eq!(add(KEYS, &mut store, 9, PRESS), Err(FULL));
+    assert_eq!(add(KEYS, &mut store, 9, PRESS), Err(NO_FREE_SLOT));
     for sheet in [4, 2] {
         assert_eq!(remove(&mut store, sheet), Ok(()));
     }
@@ -119,7 +119,7 @@ fn freed() {
     assert_eq!(store[RECORD], 9);
     assert_eq!(add(KEYS, &mut store, 2, PRESS), Ok(1));
     assert_eq!(store[3 * RECORD], 2);
-    assert_eq!(add(KEYS, &mut store, 10, PRESS), Err(FULL));
+    assert_eq!(add(KEYS, &mut store, 10, PRESS), Err(NO_FREE_SLOT));
 }
 
 /// The text is replaced whole, by a shorter one too, at the next revision.
@@ -301,11 +301,14 @@ fn unsound_fields() {
         let mut buffer = [0; 2_096];
         assert_eq!(check(&store), Ok(Checked::Faulty(0)), "{change:?}");
         let found = read(KEYS, &store, 305, &mut buffer);
-        assert_eq!(found, Err(UNSOUND), "{change:?}");
+        assert_eq!(found, Err(SLOT_UNSOUND), "{change:?}");
         assert_eq!(buffer, [0; 2_096]);
         let seen = u32::from(store[4]);
-        assert_eq!(revise(KEYS, &mut store, 305, seen, PRESS), Err(UNSOUND));
-        assert_eq!(add(KEYS, &mut store, 305, PRESS), Err(TAKEN));
+        assert_eq!(
+            revise(KEYS, &mut store, 305, seen, PRESS),
+            Err(SLOT_UNSOUND)
+        );
+        assert_eq!(add(KEYS, &mut store, 305, PRESS), Err(SHEET_PRESENT));
         assert_eq!(store, before);
         assert_eq!(remove(&mut store, 305), Ok(()));
         assert_eq!(store, [0; 2 * RECORD]);
