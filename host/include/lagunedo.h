@@ -117,7 +117,7 @@ extern "C" {
 
 enum lagunedo_number { LAGUNEDO_NUMBERS(LAGUNEDO_NUMBER_VALUE) };
 
-/* A number's name, as "LAGUNEDO_NO_SHEET", or "?" where it has none. */
+/* A number's name, as "LAGUNEDO_NO_SHEET", or "?" if it has none. */
 static inline const char *lagunedo_name(uint32_t number)
 {
     switch (number) {

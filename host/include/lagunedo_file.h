@@ -154,7 +154,7 @@ lagunedo_file_place(struct lagunedo_file *file, const char *path,
 enum lagunedo_file_answer lagunedo_file_lock(struct lagunedo_file *file,
                                              int wait);
 
-/* Gives the lock back; nothing happens where it is not held. */
+/* Gives the lock back; nothing happens if it is not held. */
 void lagunedo_file_unlock(struct lagunedo_file *file);
 
 /*

@@ -24,7 +24,7 @@ void must(int holds, const char *what);
 
 /*
  * eme2.c: EME2 over a peer's AES, under a key of Key1, of key1 bytes, then
- * Key2 and Key3 (01). Key1 is set up in the peer first, for Dec too where back
+ * Key2 and Key3 (01). Key1 is set up in the peer first, for Dec too if back
  * is true. The lengths are those that lagunedo.h takes.
  */
 void eme2_set_up(const struct peer *aes, const uint8_t *key, size_t key1,

@@ -26,7 +26,7 @@ struct peer {
     /* AES over whole blocks in place, as many at once as the peer can. */
     void (*blocks)(bool back, uint8_t *bytes, size_t length);
 
-    /* What it says it found the processor to offer; NULL where it is mute. */
+    /* What it says it found the processor to offer; NULL if it is mute. */
     const char *(*settings)(void);
 };
 

@@ -97,7 +97,7 @@ static uint32_t mark_all(struct desk *desk)
     return number;
 }
 
-/* Where there is no sheet the store is as it was, and so is its file. */
+/* If there is no sheet the store is as it was, and so is its file. */
 int run_begin(struct desk *desk)
 {
     struct counts counts;

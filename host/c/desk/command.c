@@ -9,7 +9,7 @@
 const struct command commands[COMMANDS] = {
     { "new", " SLOTS", 1, TAKES_LOCK, LAGUNEDO_FILE_TO_MAKE, run_new,
       "makes a store of SLOTS free slots, 0 to 1,024",
-      "Where there is a file of that name already it ends with 106 and leaves "
+      "If there is a file of that name already it ends with 106 and leaves "
       "it alone. The new file is for its owner alone." },
     { "check", "", 0, 0, LAGUNEDO_FILE_TO_READ, run_check,
       "names the lowest faulty slot, or else counts the slots and prints the "
@@ -51,7 +51,7 @@ const struct command commands[COMMANDS] = {
       "Every sheet has to be marked new key: otherwise a changeover is under "
       "way, and it ends with 108. Each text is deciphered under the key, its "
       "mark becomes 1, and it is enciphered under the same key with the new "
-      "lead. FINGERPRINT is what check printed: where the store is another "
+      "lead. FINGERPRINT is what check printed: if the store is another "
       "by now, it ends with 107. So a begin that is given again, at once or "
       "much later, changes nothing. Ends, in this order, with 1, 4, 107, "
       "100, 108. The store as it was is kept as STORE.desk-before." },
@@ -60,11 +60,11 @@ const struct command commands[COMMANDS] = {
       "brings every sheet under the new key",
       "A sheet in clear or marked old key is converted. One marked new key "
       "is taken to be under the new key already, whichever key it is under: "
-      "where two different keys are given, the number of these is said in "
+      "if two different keys are given, the number of these is said in "
       "words. If it is not 0 and no changeover was under way, give begin "
       "first, and keep the old key. Damaged slots are named and kept. "
-      "Refusals, in this order: 1, 4. Where a sheet was converted, the store "
-      "as it was is kept as STORE.desk-before; where none was, both files "
+      "Refusals, in this order: 1, 4. If a sheet was converted, the store "
+      "as it was is kept as STORE.desk-before; if none was, both files "
       "are left alone. Given again after it had worked, it converts none. "
       "Given again after the next begin, its old key is a wrong one, which "
       "no program can tell: the copy is for that." }

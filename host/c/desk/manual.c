@@ -57,7 +57,7 @@ const struct part manual[PARTS] = {
     { "files",
       { "STORE.desk-lock is the lock, and stays. Mode, owner and group of "
         "STORE stay where the system lets them; a new one is for its owner "
-        "alone. Where a symbolic link is named, the file behind it is "
+        "alone. If a symbolic link is named, the file behind it is "
         "replaced. A server that uses the calls of lagunedo_file.h may share "
         "the store.",
         NULL } }

@@ -8,7 +8,7 @@
 #include "option.h"
 
 const struct option_row options[OPTIONS] = {
-    { "key", 0, "FILE", TAKES_KEYS | TAKES_ONE_KEY, "the key, where one is in "
+    { "key", 0, "FILE", TAKES_KEYS | TAKES_ONE_KEY, "the key, if one is in "
       "use" },
     { "old-key", 0, "FILE", TAKES_KEYS, "while two keys are in use, the old "
       "one" },
@@ -19,7 +19,7 @@ const struct option_row options[OPTIONS] = {
       "turn, 1 to 64" },
     { "raw", 0, NULL, TAKES_RAW, "read: every byte as it is, at a terminal "
       "too" },
-    { "wait", 0, NULL, TAKES_LOCK, "where the store is in use, waits until it "
+    { "wait", 0, NULL, TAKES_LOCK, "if the store is in use, waits until it "
       "is not" },
     { "help", 'h', NULL, 0, "prints the help, or that of one command" },
     { "version", 0, NULL, 0, "prints the version" },

@@ -1,5 +1,5 @@
 /*
- * A bar on standard error that shows how far a long run has come. Where
+ * A bar on standard error that shows how far a long run has come. If
  * standard error is no terminal, nothing is printed.
  */
 

@@ -152,7 +152,7 @@ static int any_converted(const struct rekeying *all)
     return 0;
 }
 
-/* Where nothing was converted the store is as it was, and so is its file. */
+/* If nothing was converted the store is as it was, and so is its file. */
 int run_rekey(struct desk *desk)
 {
     struct rekeying all;

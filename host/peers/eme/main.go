@@ -46,7 +46,7 @@ func setUp(key []byte) cipher.Block {
 	return block
 }
 
-// transform gives the message enciphered, or deciphered where back is true.
+// transform gives the message enciphered, or deciphered if back is true.
 func transform(block cipher.Block, back bool, tweak, message []byte) []byte {
 	if back {
 		return eme.New(block).Decrypt(tweak, message)

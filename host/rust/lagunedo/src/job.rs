@@ -44,7 +44,7 @@ pub struct Job {
 ///
 /// # Errors
 ///
-/// [`Refusal::KeyLength`] where one of the two keys, which may differ in
+/// [`Refusal::KeyLength`] if one of the two keys, which may differ in
 /// length, is neither 48 nor 64 bytes, then [`Refusal::StoreLength`]; the
 /// store and the place are then as they were.
 pub fn step(

@@ -70,8 +70,8 @@ pub use store::{add, check, read, remove, revise, Checked, Counts, Found, FAULT}
 ///
 /// # Errors
 ///
-/// [`Refusal::KeyLength`] where the key is neither 16 nor 32 bytes, then
-/// [`Refusal::MessageLength`] where the block is not 16; the block is then
+/// [`Refusal::KeyLength`] if the key is neither 16 nor 32 bytes, then
+/// [`Refusal::MessageLength`] if the block is not 16; the block is then
 /// as it was.
 pub fn aes_encipher(key: &[u8], block: &mut [u8]) -> Result<(), Refusal> {
     // SAFETY: the call takes slices of any length and requires nothing of
@@ -123,9 +123,9 @@ pub fn aes_decipher(key: &[u8], block: &mut [u8]) -> Result<(), Refusal> {
 ///
 /// # Errors
 ///
-/// [`Refusal::KeyLength`] where the key is neither 48 nor 64 bytes, then
-/// [`Refusal::MessageLength`] where the message is below 16 bytes or above
-/// 65,536, then [`Refusal::DataLength`] where the associated data is above
+/// [`Refusal::KeyLength`] if the key is neither 48 nor 64 bytes, then
+/// [`Refusal::MessageLength`] if the message is below 16 bytes or above
+/// 65,536, then [`Refusal::DataLength`] if the associated data is above
 /// 1,024; the message is then as it was.
 pub fn eme2_encipher(key: &[u8], ad: &[u8], message: &mut [u8]) -> Result<(), Refusal> {
     // SAFETY: as for AES, with a further slice that is only read. It and the

@@ -7,7 +7,7 @@
 //!
 //! # Safety
 //!
-//! Of every call: each pointer is not null, even where its length is 0; what
+//! Of every call: each pointer is not null, even if its length is 0; what
 //! is lent may be read (behind `*mut`: written too) over its whole length; and
 //! what is lent to be written overlaps nothing else that is lent.
 

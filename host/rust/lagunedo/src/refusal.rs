@@ -55,7 +55,7 @@ refusals! {
     NoSheet = 7, "no slot has the sheet number",
         "No slot has the sheet number.";
     OtherRevision = 8, "the revision named is not the stored one",
-        "The revision named is not the stored one, as where the sheet was revised since the operator read it.";
+        "The revision named is not the stored one, as it is if the sheet was revised since the operator read it.";
     LastRevision = 9, "the stored revision is 65,535, the last",
         "The stored revision is 65,535, so there is none after it.";
     NoFreeSlot = 10, "no slot is free: none has sheet number 0",

@@ -4,7 +4,7 @@ use crate::raw::{lagunedo_add, lagunedo_check, lagunedo_read, lagunedo_remove, l
 use crate::refusal::answer;
 use crate::Refusal;
 
-/// What the library's check returns where a slot is faulty: an answer, not a
+/// What the library's check returns if a slot is faulty: an answer, not a
 /// refusal, so it is above 01's numbers.
 pub const FAULT: u32 = 256;
 
@@ -105,7 +105,7 @@ pub fn check(store: &[u8]) -> Result<Checked, Refusal> {
 ///
 /// # Errors
 ///
-/// In this order: [`Refusal::KeyLength`] where one of the two keys, which
+/// In this order: [`Refusal::KeyLength`] if one of the two keys, which
 /// may differ in length, is neither 48 nor 64 bytes,
 /// [`Refusal::StoreLength`], [`Refusal::SheetZero`],
 /// [`Refusal::NoSheet`], [`Refusal::SlotUnsound`], [`Refusal::BufferLength`],
@@ -153,7 +153,7 @@ pub fn read(
 /// let mut store = vec![0; lagunedo::RECORD_SIZE];
 /// assert_eq!(add(&old, &new, &mut store, 305, b"PRESS 4 HOLD 5AM"), Ok(1));
 ///
-/// // Made again it is refused, and so is another where no slot is free.
+/// // Made again it is refused, and so is another if no slot is free.
 /// let again = add(&old, &new, &mut store, 305, b"PRESS 4 HOLD 5AM");
 /// assert_eq!(again, Err(Refusal::SheetPresent));
 /// let another = add(&old, &new, &mut store, 306, b"PRESS 1 AT SEVEN");

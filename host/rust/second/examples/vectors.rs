@@ -101,7 +101,7 @@ fn text(first: &str, lengths: &[[usize; 3]], written: &dyn Fn(&[u8]) -> Vec<u8>)
     text
 }
 
-/// Bytes in hexadecimal: in the line where they fit, or else below it.
+/// Bytes in hexadecimal: in the line if they fit, or else below it.
 fn digits(bytes: &[u8]) -> String {
     let between = if bytes.len() <= WIDTH { " " } else { "\n  " };
     let mut text = String::new();

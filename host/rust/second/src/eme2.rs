@@ -18,7 +18,7 @@ type Block = [u8; 16];
 pub const MESSAGE: RangeInclusive<usize> = 16..=65_536;
 
 /// The message overwritten with what EME2-AES makes of it under a key and
-/// associated data, deciphered where `back` is true. Returns 0, or the number
+/// associated data, deciphered if `back` is true. Returns 0, or the number
 /// of the first refusal that applies (01, transform: 1, 2, 3), and then keeps
 /// the message.
 pub fn eme2(key: &[u8], back: bool, ad: &[u8], message: &mut [u8]) -> u32 {
@@ -85,7 +85,7 @@ fn associated(enc: &dyn Fn(Block) -> Block, key3: Block, t: &[u8]) -> Block {
 ///
 /// # Panics
 ///
-/// Where the message is below 16 bytes: the tables begin with a full block.
+/// If the message is below 16 bytes: the tables begin with a full block.
 pub fn wide(
     permute: &dyn Fn([u8; 16]) -> [u8; 16],
     l: [u8; 16],
@@ -255,7 +255,7 @@ fn pad(short: &[u8]) -> Block {
     padded
 }
 
-/// Blocks of 16 bytes, the last of 1 to 16; none where there are no bytes.
+/// Blocks of 16 bytes, the last of 1 to 16; none if there are no bytes.
 fn split(bytes: &[u8]) -> Vec<&[u8]> {
     bytes.chunks(16).collect()
 }

@@ -40,7 +40,7 @@ pub use slip::Slip;
 pub use step::{step, Outcome};
 pub use store::{add, check, read, remove, revise, Checked, Counts, Found};
 
-/// One block overwritten with what AES makes of it, deciphered where `back`
+/// One block overwritten with what AES makes of it, deciphered if `back`
 /// is true. Returns 0, or the number of the first refusal that applies (01,
 /// AES: the key, then the block), and then keeps the block.
 pub fn aes(key: &[u8], back: bool, block: &mut [u8]) -> u32 {

@@ -20,10 +20,10 @@ pub const OLD: u8 = 1;
 /// The mark of a text under the new key.
 pub const NEW: u8 = 2;
 
-/// The fields of a lead. Bytes 7 and 10 to 15 are 0 where it is sound.
+/// The fields of a lead. Bytes 7 and 10 to 15 are 0 if it is sound.
 #[derive(Clone, Copy, Debug, Eq, PartialEq)]
 pub struct Lead {
-    /// Bytes 0 to 3: the sheet number, 0 where the slot is free.
+    /// Bytes 0 to 3: the sheet number, 0 if the slot is free.
     pub sheet: u32,
     /// Bytes 4 and 5: the revision.
     pub revision: u16,
@@ -78,7 +78,7 @@ pub struct Keys<'a> {
     pub new: &'a [u8],
 }
 
-/// Bytes 0 to 3: the sheet number, 0 where the slot is free.
+/// Bytes 0 to 3: the sheet number, 0 if the slot is free.
 #[must_use]
 pub fn sheet(record: &[u8]) -> u32 {
     u32::from_le_bytes([record[0], record[1], record[2], record[3]])
@@ -102,7 +102,7 @@ pub fn length(record: &[u8]) -> usize {
     usize::from(u16::from_le_bytes([record[8], record[9]]))
 }
 
-/// Whether a slot is as the table has it: all 0 where it is free, or else
+/// Whether a slot is as the table has it: all 0 if it is free, or else
 /// with every field in its range and zeros in between and behind.
 #[must_use]
 pub fn sound(record: &[u8]) -> bool {

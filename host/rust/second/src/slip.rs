@@ -15,7 +15,7 @@ pub enum Slip {
 
 impl Slip {
     /// What 000 has at the place of this error, or what a learner puts there
-    /// where this is the error made.
+    /// if this is the error made.
     pub(crate) fn choose<T>(self, made: Option<Self>, right: T, wrong: T) -> T {
         if made == Some(self) {
             wrong
