@@ -1,7 +1,7 @@
 -- Demand 3, second part: the last-slot claim, of 01's step.
 -- Assumes nothing.
 use mathlib.Core.Path.{_≡_, refl, sym, ap, _∙_, subst}
-use mathlib.Core.Bool.{Bool, true, false, cond, not, _&&_, _||_}
+use mathlib.Core.Bool.{Bool, true, false, cond, not, _&&_, _||_, or-true}
 use mathlib.Core.List.{List, [], _∷_, _++_}
 use Prim.Native.Nat.{ℕ, suc, _+_, _≤_, _<_}
 use native.Mathlib.Omega.{arith}
@@ -51,10 +51,6 @@ ready-unmarked r m h e = by-tests (eqb (num r) 0) (eqb (mark r) 2) (eqb (mark r)
 -- every slot below p is free or under the new key
 abbrev Behind : ℕ → List ℕ → Type 0
 Behind p s = (j : ℕ) → j < p → j < slots s → ready (slot s j) ≡ true
-
-or-true : (a : Bool) → a || true ≡ true
-or-true true = refl
-or-true false = refl
 
 ready-emptied : ready emptied ≡ true
 ready-emptied = ap (λ (b : Bool). b || eqb (mark emptied) 2) (eq-eqb (num emptied) 0 num-emptied)

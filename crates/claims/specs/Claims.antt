@@ -72,5 +72,5 @@ abbrev pub answerAt : List Answer → ℕ → Answer
 answerAt l i = getD l i ofStep
 
 -- an accepted removal of sheet n stands at position k
-abbrev pub RemovedAt : List ℕ → List ℕ → List Event → State → ℕ → ℕ → Type 0
+abbrev pub RemovedAt : (o w : List ℕ) (es : List Event) (st : State) (n k : ℕ) → Type 0
 RemovedAt o w es st n k = (eventAt es k ≡ removing n) × (answerAt (answers o w es st) k ≡ ofRemoved Done)
