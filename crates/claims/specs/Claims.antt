@@ -10,7 +10,8 @@ use Rattle.block.specs.Bytes.{Bytes}
 use Rattle.slots.specs.Slots.{slots, slot}
 use Rattle.checking.specs.Check.{checkAnswer, counts, marked}
 use Rattle.store.specs.declared.Removed.the-variants.{Done}
-use Rattle.claims.specs.Machine.{Event, reading, adding, revising, removing, stepping, AllAllowed, Answer, ofRemoved, ofStep, State, Step, storeStep, finalBy, answers}
+use Rattle.claims.specs.Machine.{Event, reading, adding, revising, removing, stepping, AllAllowed, Answer, ofRemoved, ofStep}
+use Rattle.claims.specs.Machine.{State, Step, storeStep, finalBy, answers}
 
 -- a key: 48 or 64 bytes
 abbrev pub Key : List ℕ → Type 0
