@@ -21,7 +21,7 @@ unfoldable pub afterwards : Bool → List ℕ → List ℕ → List ℕ
 afterwards back k b = cond (eqb (number k b) 0) (aes back k b) b
 
 -- what the calls promise of their answer and of the block afterwards
-abbrev pub Called : Bool → List ℕ → List ℕ → Answer → List ℕ → Type 0
+abbrev pub Called : (back : Bool) (k b : List ℕ) (answer : Answer) (b′ : List ℕ) → Type 0
 Called back k b answer b′ = (answerPaper answer ≡ number k b) × (b′ ≡ afterwards back k b)
 
 -- two answers that keep the promise are equal, and so are the bytes afterwards

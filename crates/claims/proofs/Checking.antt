@@ -1,4 +1,5 @@
--- A store passes the check exactly where its slots are all sound and no sheet number other than 0 stands twice; and every call keeps it so.
+-- A store passes the check exactly if its slots are all sound and no sheet number other than 0 stands twice; and a slot written anew keeps it so,
+-- if no other slot has its number.
 -- Assumes nothing.
 use mathlib.Core.Path.{_≡_, refl, sym, ap, ap₂, _∙_}
 use mathlib.Core.Bool.{Bool, true, false, cond, not, _&&_, _||_}
@@ -9,6 +10,7 @@ use borrow.Author.Tests.{eqb-true, eqb-false, ltb-false, le-ltb}
 use lib.Dec.{eqb, ltb}
 use lib.ListN.{length}
 use Rattle.block.specs.Bytes.{Bytes}
+use Rattle.block.proofs.BoolLaws.{clash}
 use Rattle.records.specs.Record.{recordSize, num, sound}
 use Rattle.slots.specs.Slots.{slots, slot, put, lowest, find, badSize}
 use Rattle.slots.proofs.FindLaws.{find-has, find-lowest, lowest-has, lowest-below}
@@ -86,9 +88,6 @@ good-passes s g a =
     ap₂ (λ (x y : Bool). cond x (Refused StoreLength) (cond y (Fault (lowest p (slots s))) (counts s))) (g .size)
     (le-ltb (lowest p (slots s)) (slots s) (omega (arith, h)))
   where
-    clash : (t : Bool) → t ≡ true → t ≡ false → ⊥
-    clash t x y = let z : _≡_ {A = ℕ} 1 0 = ap (λ (u : Bool). cond u 1 0) (sym x ∙ y) in let v : ⊥ = omega arith in v
-
     by-number : (k : ℕ) (t : Bool) → k < slots s → eqb (num (slot s k)) 0 ≡ t → not t && ltb (find s (num (slot s k))) k ≡ false
     by-number k true h e = refl
     by-number k false h e =

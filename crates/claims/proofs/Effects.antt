@@ -131,7 +131,8 @@ module _ (o w s : List ℕ) (keys : badKeys o w ≡ false) (bo : Bytes o) (bw : 
         put-plain o w s k x (a .at .within) lx
             ∙ ap (set (plain o w s) k) (place-sheet w n (rev r + 1) t bw bt (a .fits) hn hv o (a .at .some))
             ∙ ap (λ (j : ℕ). set (plain o w s) k (holding n (j + 1) t)) (sym q),
-        sound-put s k (a .at .within) x lx g (bytes-sheet w n (rev r + 1) t bw bt) (sound-sheet w n (rev r + 1) t bw bt (a .fits) (a .at .some) hn (omega arith) hv (a .long)),
+        sound-put s k (a .at .within) x lx g (bytes-sheet w n (rev r + 1) t bw bt)
+            (sound-sheet w n (rev r + 1) t bw bt (a .fits) (a .at .some) hn (omega arith) hv (a .long)),
       )
 
   -- a step leaves the list as it was
@@ -149,7 +150,8 @@ module _ (o w s : List ℕ) (keys : badKeys o w ≡ false) (bo : Bytes o) (bw : 
       let hn : num r < 4294967296 = num-bound r br in
       let hv : rev r ≤ greatestRevision = rev-bound r br in (
         put-plain o w s k (rekeyed o w s k) (c .within) (c .whole)
-            ∙ ap (set (plain o w s) k) (place-sheet w (num r) (rev r) t bw (c .bytes) (c .fits) hn hv o (c .used) ∙ sym (held o w s keys bo bw g k (c .within) (c .used)))
+            ∙ ap (set (plain o w s) k) (place-sheet w (num r) (rev r) t bw (c .bytes) (c .fits) hn hv o (c .used))
+            ∙ ap (set (plain o w s) k) (sym (held o w s keys bo bw g k (c .within) (c .used)))
             ∙ set-same (plain o w s) k (omega (arith, length-plain o w s, c .within)),
         sound-put s k (c .within) (rekeyed o w s k) (c .whole) g (bytes-sheet w (num r) (rev r) t bw (c .bytes))
             (sound-sheet w (num r) (rev r) t bw (c .bytes) (c .fits) (c .used) hn (omega (arith, f)) hv (c .long)),

@@ -62,14 +62,16 @@ module _ (o w : List ℕ) (keys : badKeys o w ≡ false) (bo : Bytes o) (bw : By
       let st : State = record { store = twoClear; place = λ c. 0 } in
       let k : ℕ = storeStep o w .goesTo twoClear 0 in
       let s : List ℕ = cond (eqb k 0) (storeStep o w .leaves once k) once in
-      let same : s ≡ once = ap (λ (t : Bool). cond t (storeStep o w .leaves once k) once) (ne-eqb k 0 (λ q. let y : ⊥ = omega (arith, goes-on twoClear sound-two 0 converts-0) in y)) in
+      let far : eqb k 0 ≡ false = ne-eqb k 0 (λ q. let y : ⊥ = omega (arith, goes-on twoClear sound-two 0 converts-0) in y) in
+      let same : s ≡ once = ap (λ (t : Bool). cond t (storeStep o w .leaves once k) once) far in
       let none = claim st (sound-two .bytes) two-pass [] (stepping 0 ∷ stepping 0 ∷ []) [] (tt, (tt, tt)) 0 refl (omega (arith, two-slots)) in
       let c = none 1 (omega (arith, ap slots same, once-slots)) .0 in
       clash (sym (ap (marked 0) (ap (λ (x : List ℕ). slot x 1) same ∙ once-slot-1)) ∙ c)
     where
       clash : marked 0 (clear 2) ≡ false → ⊥
       clash e =
-          let m : marked 0 (clear 2) ≡ true = ap₂ (λ (a b : Bool). not a && b) (ne-eqb (num (clear 2)) 0 (λ q. let y : ⊥ = omega (arith, num-clear 2 (omega arith)) in y)) (eq-eqb (mark (clear 2)) 0 (mark-clear 2)) in
+          let u : eqb (num (clear 2)) 0 ≡ false = ne-eqb (num (clear 2)) 0 (λ q. let y : ⊥ = omega (arith, num-clear 2 (omega arith)) in y) in
+          let m : marked 0 (clear 2) ≡ true = ap₂ (λ (a b : Bool). not a && b) u (eq-eqb (mark (clear 2)) 0 (mark-clear 2)) in
           let z : _≡_ {A = ℕ} 1 0 = ap (λ (t : Bool). cond t 1 0) (sym m ∙ e) in
           let y : ⊥ = omega arith in
           y
@@ -82,7 +84,8 @@ module _ (o w : List ℕ) (keys : badKeys o w ≡ false) (bo : Bytes o) (bw : By
       let u1 : num (slot once 1) ≡ 2 = ap num once-slot-1 ∙ num-clear 2 (omega arith) in
       let e : outcomeAt once 1 ≡ Converted = clear-converts once g 1 (omega (arith, once-slots)) (λ q. let y : ⊥ = omega arith in y) m1 in
       let c = convert-says o w once 1 bo bw (g .bytes) e in
-      let twice : slot (firstSlots o w 2 twoClear) 1 ≡ rekeyed o w once 1 = ap (λ (x : List ℕ). slot x 1) (leaves-it once g 1 e) ∙ slot-put once 1 (c .within) (rekeyed o w once 1) (c .whole) in
+      let twice : slot (firstSlots o w 2 twoClear) 1 ≡ rekeyed o w once 1 =
+      ap (λ (x : List ℕ). slot x 1) (leaves-it once g 1 e) ∙ slot-put once 1 (c .within) (rekeyed o w once 1) (c .whole) in
       let q : slot (firstSlots o w (slots twoClear) twoClear) 1 ≡ slot twoClear 1 = claim twoClear (sound-two .bytes) 0 1 (λ r. let y : ⊥ = omega arith in y) in
       let p : rekeyed o w once 1 ≡ clear 2 = sym twice ∙ sym (ap (λ (n : ℕ). slot (firstSlots o w n twoClear) 1) two-slots) ∙ q ∙ slot-1 in
       let m : mark (rekeyed o w once 1) ≡ 2 = mark-sheet w (num (slot once 1)) (rev (slot once 1)) (textOf o w (slot once 1)) in

@@ -1,7 +1,7 @@
 -- Demand 3, second part: the last-slot claim, of 01's step.
 -- Assumes nothing.
 use mathlib.Core.Path.{_≡_, refl, sym, ap, _∙_, subst}
-use mathlib.Core.Bool.{Bool, true, false, cond, not, _&&_, _||_}
+use mathlib.Core.Bool.{Bool, true, false, cond, not, _&&_, _||_, or-true}
 use mathlib.Core.List.{List, [], _∷_, _++_}
 use Prim.Native.Nat.{ℕ, suc, _+_, _≤_, _<_}
 use native.Mathlib.Omega.{arith}
@@ -51,10 +51,6 @@ ready-unmarked r m h e = by-tests (eqb (num r) 0) (eqb (mark r) 2) (eqb (mark r)
 -- every slot below p is free or under the new key
 abbrev Behind : ℕ → List ℕ → Type 0
 Behind p s = (j : ℕ) → j < p → j < slots s → ready (slot s j) ≡ true
-
-or-true : (a : Bool) → a || true ≡ true
-or-true true = refl
-or-true false = refl
 
 ready-emptied : ready emptied ≡ true
 ready-emptied = ap (λ (b : Bool). b || eqb (mark emptied) 2) (eq-eqb (num emptied) 0 num-emptied)
@@ -179,7 +175,8 @@ module _ (o w : List ℕ) (keys : badKeys o w ≡ false) (bo : Bytes o) (bw : By
   by-a-step : (st : State) → SoundStore (st .store) → (n d : ℕ) → Reached n (st .place c) (st .store)
       → Reached (cond (eqb c d) (suc n) n) (next o w (stepping d) st .place c) (next o w (stepping d) st .store)
   by-a-step st g n d r =
-      subst (λ (q : Plan). Reached (cond (eqb c d) (suc n) n) (moved d (placeAfter k (stepAnswer s q)) (st .place) c) (stepStore o w s q)) (sym plan) (by-copy (eqb c d) refl)
+      subst (λ (q : Plan). Reached (cond (eqb c d) (suc n) n) (moved d (placeAfter k (stepAnswer s q)) (st .place) c) (stepStore o w s q))
+      (sym plan) (by-copy (eqb c d) refl)
     where
       s : List ℕ
       s = st .store
@@ -200,7 +197,8 @@ module _ (o w : List ℕ) (keys : badKeys o w ≡ false) (bo : Bytes o) (bw : By
       by-copy true e =
           let q : st .place c ≡ k = ap (st .place) (eqb-true c d e) in
           let b : Behind k s = subst (λ (i : ℕ). Behind i s) q (r .0) in
-          (behind-own o w s bo bw g k x refl b, λ a. further o w s bo bw g n k x refl (λ y. let z : n ≤ st .place c = r .1 (omega arith) in omega arith) (omega (arith, same)))
+          let f : k < slots s → n ≤ k = λ y. let z : n ≤ st .place c = r .1 (omega arith) in omega arith in
+          (behind-own o w s bo bw g k x refl b, λ a. further o w s bo bw g n k x refl f (omega (arith, same)))
       by-copy false e = (behind-others o w s bo bw g (st .place c) k x refl (r .0), λ a. r .1 (omega (arith, same)))
 
   reached : (es : List Event) (st : State) → AllAllowed es → SoundStore (st .store) → (n : ℕ) → Reached n (st .place c) (st .store)
@@ -217,7 +215,8 @@ module _ (o w : List ℕ) (keys : badKeys o w ≡ false) (bo : Bytes o) (bw : By
       reached es (next o w (removing i) st) (a .1) (one-next o w keys bo bw (removing i) st (a .0) g .1) n
       (kept-by-remove (st .store) g n (st .place c) r i (removePlan (st .store) i) refl)
   reached (stepping d ∷ es) st a g n r =
-      let q = reached es (next o w (stepping d) st) (a .1) (one-next o w keys bo bw (stepping d) st (a .0) g .1) (cond (eqb c d) (suc n) n) (by-a-step st g n d r) in
+      let g1 : SoundStore (next o w (stepping d) st .store) = one-next o w keys bo bw (stepping d) st (a .0) g .1 in
+      let q = reached es (next o w (stepping d) st) (a .1) g1 (cond (eqb c d) (suc n) n) (by-a-step st g n d r) in
       (q .0, λ h. subst (λ (m : ℕ). m ≤ final o w (stepping d ∷ es) st .place c) (sum (eqb c d)) (q .1 h))
     where
       sum : (t : Bool) → cond t (suc n) n + stepsOf c es ≡ n + cond t (suc (stepsOf c es)) (stepsOf c es)
@@ -242,7 +241,8 @@ none-left : (o w : List ℕ) → badKeys o w ≡ false → Bytes o → Bytes w �
 none-left o w keys bo bw c st g z es a h k hk =
     let q = reached o w keys bo bw c es st a g 0 ((λ j x y. let v : ⊥ = omega arith in absurd v), λ x. omega arith) in
     let n : slots (final o w es st .store) ≡ slots (st .store) = slots-stay o w keys bo bw es st a g in
-    let f : final o w es st .place c < slots (final o w es st .store) → ⊥ = λ x. let y : 0 + stepsOf c es ≤ final o w es st .place c = q .1 x in let v : ⊥ = omega arith in v in
+    let f : final o w es st .place c < slots (final o w es st .store) → ⊥ =
+    λ x. let y : 0 + stepsOf c es ≤ final o w es st .place c = q .1 x in let v : ⊥ = omega arith in v in
     let r : ready (slot (final o w es st .store) k) ≡ true = q .0 k (omega (arith, f)) hk in
     (ready-unmarked (slot (final o w es st .store) k) 0 (omega arith) r, ready-unmarked (slot (final o w es st .store) k) 1 (omega arith) r)
 

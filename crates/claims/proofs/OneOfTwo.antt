@@ -27,7 +27,8 @@ use Rattle.store.specs.declared.Outcome.the-variants.{Done, Free, Damaged, Alre
 use Rattle.store.specs.declared.Stored.the-variants.{Refused, Revision}
 use Rattle.store.specs.declared.Removed.the-variants as removed
 use Rattle.store.specs.Calls.{addStore, reviseAnswer, reviseStore, removeAnswer, removeStore, outcomeAt, convertedAt, stepStore}
-use Rattle.claims.specs.Machine.{Event, reading, adding, revising, removing, stepping, Allowed, AllAllowed, Answer, ofRead, ofStored, ofRemoved, ofStep, State, answer, next, answers}
+use Rattle.claims.specs.Machine.{Event, reading, adding, revising, removing, stepping, Allowed, AllAllowed}
+use Rattle.claims.specs.Machine.{Answer, ofRead, ofStored, ofRemoved, ofStep, State, answer, next, answers}
 use Rattle.claims.specs.Claims.{eventAt, answerAt, RemovedAt}
 use Rattle.claims.proofs.Simulation.{SoundStore}
 use Rattle.claims.proofs.Effects.{rekeyed, convert-says}

@@ -17,9 +17,12 @@ use Rattle.plans.proofs.PlanLaws.{used, read-says, revise-says}
 use Rattle.store.specs.declared.Text.the-variants.{Read}
 use Rattle.store.specs.declared.Stored.the-variants.{Revision}
 use Rattle.store.specs.Calls.{readAnswer, readBuffer, addAnswer, reviseAnswer, removeAnswer}
-use Rattle.claims.specs.Plain.{Place, nothing, holding, revisionOf, textIn, at, addIn, reviseIn, removeIn, readText, readInto, added, afterAdd, revised, afterRevise, gone, afterRemove}
+use Rattle.claims.specs.Plain.{Place, nothing, holding, revisionOf, textIn, at, addIn, reviseIn, removeIn}
+use Rattle.claims.specs.Plain.{readText, readInto, added, afterAdd, revised, afterRevise, gone, afterRemove}
 use Rattle.claims.specs.View.{plain}
-use Rattle.claims.specs.Machine.{Event, reading, adding, revising, removing, stepping, Allowed, AllAllowed, Answer, ofRead, ofStored, ofRemoved, State, answer, next, answers, final, listAnswer, listNext, listAnswers, listFinal}
+use Rattle.claims.specs.Machine.{Event, reading, adding, revising, removing, stepping, Allowed, AllAllowed}
+use Rattle.claims.specs.Machine.{Answer, ofRead, ofStored, ofRemoved, State, answer, next, answers, final}
+use Rattle.claims.specs.Machine.{listAnswer, listNext, listAnswers, listFinal}
 use Rattle.claims.proofs.ViewLaws.{length-plain}
 use Rattle.claims.proofs.Simulation.{SoundStore, held, read-plain, add-plain, revise-plain, remove-plain, long}
 use Rattle.claims.proofs.Effects.{effect-remove, effect-add, effect-revise, effect-step}

@@ -39,9 +39,10 @@ module _ (n : ℕ) where
   bytes-clear : Bytes (clear n)
   unfolding clear recordOf
   bytes-clear =
-      bytes-append (lead n 1 0 (length (replicate {A = ℕ} 16 0))) (replicate 16 0 ++ replicate (textMost - length (replicate {A = ℕ} 16 0)) 0)
-      (bytes-lead n 1 0 (length (replicate {A = ℕ} 16 0)) (omega arith))
-      (bytes-append (replicate 16 0) (replicate (textMost - length (replicate {A = ℕ} 16 0)) 0) (bytes-zeros 16) (bytes-zeros (textMost - length (replicate {A = ℕ} 16 0))))
+      let l : ℕ = length (replicate {A = ℕ} 16 0) in
+      bytes-append (lead n 1 0 l) (replicate 16 0 ++ replicate (textMost - l) 0)
+      (bytes-lead n 1 0 l (omega arith))
+      (bytes-append (replicate 16 0) (replicate (textMost - l) 0) (bytes-zeros 16) (bytes-zeros (textMost - l)))
 
   module _ (h : n < 4294967296) where
     pub num-clear : num (clear n) ≡ n
@@ -92,9 +93,10 @@ number-1 = ap num slot-1 ∙ num-clear 2 (omega arith)
 
 apart-two : Apart twoClear
 apart-two j k hj hk z q =
+    let h : k < 2 = omega (arith, two-slots) in
     both (λ a. num (slot twoClear a) ≡ num (slot twoClear k) → a ≡ k)
-    (both (λ b. num (slot twoClear 0) ≡ num (slot twoClear b) → 0 ≡ b) (λ e. refl) (λ e. let y : ⊥ = omega (arith, number-0, number-1) in absurd y) k (omega (arith, two-slots)))
-    (both (λ b. num (slot twoClear 1) ≡ num (slot twoClear b) → 1 ≡ b) (λ e. let y : ⊥ = omega (arith, number-0, number-1) in absurd y) (λ e. refl) k (omega (arith, two-slots)))
+    (both (λ b. num (slot twoClear 0) ≡ num (slot twoClear b) → 0 ≡ b) (λ e. refl) (λ e. let y : ⊥ = omega (arith, number-0, number-1) in absurd y) k h)
+    (both (λ b. num (slot twoClear 1) ≡ num (slot twoClear b) → 1 ≡ b) (λ e. let y : ⊥ = omega (arith, number-0, number-1) in absurd y) (λ e. refl) k h)
     j (omega (arith, two-slots)) q
 
 pub two-pass : Passes twoClear

@@ -10,7 +10,8 @@ use Rattle.block.specs.Bytes.{Bytes}
 use Rattle.slots.specs.Slots.{slots, slot}
 use Rattle.checking.specs.Check.{checkAnswer, counts, marked}
 use Rattle.store.specs.declared.Removed.the-variants.{Done}
-use Rattle.claims.specs.Machine.{Event, reading, adding, revising, removing, stepping, AllAllowed, Answer, ofRemoved, ofStep, State, Step, storeStep, finalBy, answers}
+use Rattle.claims.specs.Machine.{Event, reading, adding, revising, removing, stepping, AllAllowed, Answer, ofRemoved, ofStep}
+use Rattle.claims.specs.Machine.{State, Step, storeStep, finalBy, answers}
 
 -- a key: 48 or 64 bytes
 abbrev pub Key : List ℕ → Type 0
@@ -72,5 +73,5 @@ abbrev pub answerAt : List Answer → ℕ → Answer
 answerAt l i = getD l i ofStep
 
 -- an accepted removal of sheet n stands at position k
-abbrev pub RemovedAt : List ℕ → List ℕ → List Event → State → ℕ → ℕ → Type 0
+abbrev pub RemovedAt : (o w : List ℕ) (es : List Event) (st : State) (n k : ℕ) → Type 0
 RemovedAt o w es st n k = (eventAt es k ≡ removing n) × (answerAt (answers o w es st) k ≡ ofRemoved Done)

@@ -1,4 +1,4 @@
--- The plain list of demand 3, and what a store looks like as one.
+-- Demand 3: the plain list, a store seen as one, the machine that runs the calls, and what is claimed of it.
 pub mod Plain
 pub mod View
 pub mod Machine

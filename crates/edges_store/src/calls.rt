@@ -4,6 +4,7 @@ ghost use lib.ListN.{length};
 use libc::STDOUT_FILENO;
 use patterns::fill;
 use patterns::is_pattern;
+use records::RECORD_SIZE;
 use script::at_most;
 use script::print;
 use script::print_digest;
@@ -42,9 +43,9 @@ pub fn check(store: &[u8], before: &[u8])
 pub fn read(old: &[u8], new: &[u8], store: &[u8], before: &[u8], sheet: u32, n: usize)
     requires { ⌜ length (now before) ≡ length (now store) ⌝ }
 {
-    let mut text = [0u8; 2112];
+    let mut text = [0u8; RECORD_SIZE];
     fill(&mut text, 3, 200);
-    let m = at_most(n, 2112);
+    let m = at_most(n, RECORD_SIZE);
     read_into(old, new, store, before, sheet, &mut text[0..m]);
 }
 
@@ -75,9 +76,9 @@ pub fn add(
 )
     requires { ⌜ length (now before) ≡ length (now store) ⌝ }
 {
-    let mut text = [0u8; 2112];
+    let mut text = [0u8; RECORD_SIZE];
     fill(&mut text, 3, from);
-    let m = at_most(n, 2112);
+    let m = at_most(n, RECORD_SIZE);
     let mut revision = 9;
     let r = lagunedo::lagunedo_add(old, new, store, sheet, &text[0..m], &mut revision);
     print_field(b": ", r);
@@ -97,9 +98,9 @@ pub fn revise(
 )
     requires { ⌜ length (now before) ≡ length (now store) ⌝ }
 {
-    let mut text = [0u8; 2112];
+    let mut text = [0u8; RECORD_SIZE];
     fill(&mut text, 3, from);
-    let m = at_most(n, 2112);
+    let m = at_most(n, RECORD_SIZE);
     let mut revision = 9;
     let r = lagunedo::lagunedo_revise(old, new, store, sheet, seen, &text[0..m], &mut revision);
     print_field(b": ", r);

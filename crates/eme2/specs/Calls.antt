@@ -9,7 +9,7 @@ use Rattle.numbers.specs.Numbers.{answerPaper, paper-apart}
 use Rattle.eme2.specs.Transform.{number, afterwards}
 
 -- what the calls promise of their answer and of the message afterwards
-abbrev pub Called : Bool → List ℕ → List ℕ → List ℕ → Answer → List ℕ → Type 0
+abbrev pub Called : (back : Bool) (k ad m : List ℕ) (answer : Answer) (m′ : List ℕ) → Type 0
 Called back k ad m answer m′ = (answerPaper answer ≡ number k ad m) × (m′ ≡ afterwards back k ad m)
 
 -- two answers that keep the promise are equal, and so are the bytes afterwards

@@ -8,14 +8,14 @@ use Rattle.aes.specs.Calls.{number, afterwards}
 use Rattle.eme2.specs.Transform as eme2
 
 -- lagunedo_aes_encipher, and with `back` lagunedo_aes_decipher
-abbrev pub AesCalled : Bool → List ℕ → List ℕ → ℕ → List ℕ → Type 0
+abbrev pub AesCalled : (back : Bool) (k b : List ℕ) (n : ℕ) (b′ : List ℕ) → Type 0
 AesCalled back k b n b′ = (n ≡ number k b) × (b′ ≡ afterwards back k b)
 
 pub aes-determined : (back : Bool) (k b : List ℕ) (n n′ : ℕ) (s s′ : List ℕ) → AesCalled back k b n s → AesCalled back k b n′ s′ → (n ≡ n′) × (s ≡ s′)
 aes-determined back k b n n′ s s′ p q = (p .0 ∙ sym (q .0), p .1 ∙ sym (q .1))
 
 -- lagunedo_eme2_encipher, and with `back` lagunedo_eme2_decipher
-abbrev pub Eme2Called : Bool → List ℕ → List ℕ → List ℕ → ℕ → List ℕ → Type 0
+abbrev pub Eme2Called : (back : Bool) (k ad m : List ℕ) (n : ℕ) (m′ : List ℕ) → Type 0
 Eme2Called back k ad m n m′ = (n ≡ eme2.number k ad m) × (m′ ≡ eme2.afterwards back k ad m)
 
 pub eme2-determined : (back : Bool) (k ad m : List ℕ) (n n′ : ℕ) (s s′ : List ℕ)

@@ -9,7 +9,8 @@ use Rattle.records.specs.Record.{num, rev, mark, len, allZero, soundUsed, sound
 use Rattle.slots.specs.Slots.{scan, tally, findBy, badSize}
 use Rattle.checking.specs.Check.{faulty, firstFault, counted, checkAnswer}
 use Rattle.lines.specs.Decimal.{digits, decimal}
-use Rattle.lines.specs.Listing.{tooLong, refused, faultAt, usedWord, freeWord, clearWord, oldWord, newWord, field, named, line, slotLine, lines, countsLine, listing}
+use Rattle.lines.specs.Listing.{tooLong, refused, faultAt, usedWord, freeWord, clearWord, oldWord, newWord}
+use Rattle.lines.specs.Listing.{field, named, line, slotLine, lines, countsLine, listing}
 
 -- lead 31 01 00 00 02 00 00 00 10 00 and six zeros, the bytes `PRESS 4 HOLD 5AM`, and zeros up to two slots
 store : List ℕ
@@ -23,14 +24,16 @@ example : listing store ≡
     48 ∷ 32 ∷ 51 ∷ 48 ∷ 53 ∷ 32 ∷ 50 ∷ 32 ∷ 48 ∷ 32 ∷ 49 ∷ 54 ∷ 10
     ∷ 117 ∷ 115 ∷ 101 ∷ 100 ∷ 32 ∷ 49 ∷ 32 ∷ 102 ∷ 114 ∷ 101 ∷ 101 ∷ 32 ∷ 49 ∷ 32 ∷ 99 ∷ 108 ∷ 101 ∷ 97 ∷ 114 ∷ 32 ∷ 49 ∷ 32
     ∷ 111 ∷ 108 ∷ 100 ∷ 32 ∷ 48 ∷ 32 ∷ 110 ∷ 101 ∷ 119 ∷ 32 ∷ 48 ∷ 10 ∷ []
-unfolding store row num rev mark len allZero soundUsed sound scan tally findBy badSize faulty firstFault counted checkAnswer digits decimal usedWord freeWord clearWord oldWord newWord field named line slotLine lines countsLine listing
+unfolding store row num rev mark len allZero soundUsed sound scan tally findBy badSize faulty firstFault counted checkAnswer digits decimal
+    usedWord freeWord clearWord oldWord newWord field named line slotLine lines countsLine listing
 example = refl
 
 -- an empty store: "used 0 free 0 clear 0 old 0 new 0"
 empty : listing [] ≡
     117 ∷ 115 ∷ 101 ∷ 100 ∷ 32 ∷ 48 ∷ 32 ∷ 102 ∷ 114 ∷ 101 ∷ 101 ∷ 32 ∷ 48 ∷ 32 ∷ 99 ∷ 108 ∷ 101 ∷ 97 ∷ 114 ∷ 32 ∷ 48 ∷ 32
     ∷ 111 ∷ 108 ∷ 100 ∷ 32 ∷ 48 ∷ 32 ∷ 110 ∷ 101 ∷ 119 ∷ 32 ∷ 48 ∷ 10 ∷ []
-unfolding row num rev mark len allZero soundUsed sound scan tally findBy badSize faulty firstFault counted checkAnswer digits decimal usedWord freeWord clearWord oldWord newWord field named line slotLine lines countsLine listing
+unfolding row num rev mark len allZero soundUsed sound scan tally findBy badSize faulty firstFault counted checkAnswer digits decimal
+    usedWord freeWord clearWord oldWord newWord field named line slotLine lines countsLine listing
 empty = refl
 
 -- a ragged size: "refused 4"

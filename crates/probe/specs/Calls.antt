@@ -10,7 +10,7 @@ use Rattle.block.specs.Blocks.{onBlocks}
 use Rattle.aes.specs.Aes.{keySize, aes}
 use Rattle.mode.specs.Wide.{wide}
 
-abbrev pub BlocksCalled : Bool → List ℕ → List ℕ → ℕ → List ℕ → Type 0
+abbrev pub BlocksCalled : (back : Bool) (k s : List ℕ) (n : ℕ) (s′ : List ℕ) → Type 0
 BlocksCalled back k s n s′ = (n ≡ cond (keySize (length k)) 0 1) × (s′ ≡ cond (keySize (length k)) (onBlocks (map (aes back k)) s) s)
 
 pub blocks-determined : (back : Bool) (k s : List ℕ) (n n′ : ℕ) (t t′ : List ℕ)
@@ -24,7 +24,7 @@ wideNumber k L T m = cond (keySize (length k)) (cond (eqb (length L) 16 && (eqb 
 unfoldable pub wideAfterwards : Bool → List ℕ → List ℕ → List ℕ → List ℕ → List ℕ
 wideAfterwards back k L T m = cond (eqb (wideNumber k L T m) 0) (wide (aes back k) L T m) m
 
-abbrev pub WideCalled : Bool → List ℕ → List ℕ → List ℕ → List ℕ → ℕ → List ℕ → Type 0
+abbrev pub WideCalled : (back : Bool) (k L T m : List ℕ) (n : ℕ) (m′ : List ℕ) → Type 0
 WideCalled back k L T m n m′ = (n ≡ wideNumber k L T m) × (m′ ≡ wideAfterwards back k L T m)
 
 pub wide-determined : (back : Bool) (k L T m : List ℕ) (n n′ : ℕ) (s s′ : List ℕ)

@@ -1,18 +1,19 @@
 -- Laws of a record's fields, of the zeros in it, and of what soundness says of a record.
 -- Assumes nothing.
-use mathlib.Core.Path.{_≡_, refl, sym, ap, _∙_, subst}
-use mathlib.Core.Bool.{Bool, true, false, cond, _&&_}
+use mathlib.Core.Path.{_≡_, refl, sym, ap, _∙_}
+use mathlib.Core.Bool.{Bool, true, false, cond, _&&_, false≢true}
 use mathlib.Core.List.{List}
 use Prim.Native.Nat.{ℕ, suc, _+_, _-_, _≤_, _<_}
 use native.Mathlib.Nat.{le-of-eq}
 use native.Mathlib.Numerals.{add-one}
 use native.Mathlib.Omega.{arith}
 use borrow.Author.Tests.{ltb-true, leb-true, eqb-true, lt-ltb, le-leb, eq-eqb, ne-eqb}
-use lib.Dec.{T, eqb, ltb, leb}
+use lib.Dec.{eqb, ltb, leb}
 use lib.ListN.{length, getD, take, drop, length-drop, drop-of-length-le}
 use lib.Seq.{take-all, drop-cons}
 use Rattle.block.specs.Tab.{byte}
 use Rattle.block.specs.Bytes.{Bytes}
+use Rattle.block.proofs.BoolLaws.{refuted}
 use Rattle.records.specs.Record.{textMost, greatestRevision, num, rev, mark, len, allZero, soundUsed, sound}
 
 -- ---- zeros, in a loop that goes through them
@@ -36,22 +37,15 @@ zeros-end s i h = ap allZero (drop-of-length-le s {i = i} h)
 
 -- ---- tests joined by `&&`
 
-no : false ≡ true → ⊥
-no e = subst T (sym e) tt
-
-refuted : (b : Bool) → (b ≡ true → ⊥) → b ≡ false
-refuted true h = absurd (h refl)
-refuted false h = refl
-
 all : (a b c d e f g : Bool) → a && (b && (c && (d && (e && (f && g))))) ≡ true
     → (a ≡ true) × (b ≡ true) × (c ≡ true) × (d ≡ true) × (e ≡ true) × (f ≡ true) × (g ≡ true)
-all false b c d e f g h = absurd (no h)
-all true false c d e f g h = absurd (no h)
-all true true false d e f g h = absurd (no h)
-all true true true false e f g h = absurd (no h)
-all true true true true false f g h = absurd (no h)
-all true true true true true false g h = absurd (no h)
-all true true true true true true false h = absurd (no h)
+all false b c d e f g h = absurd (false≢true h)
+all true false c d e f g h = absurd (false≢true h)
+all true true false d e f g h = absurd (false≢true h)
+all true true true false e f g h = absurd (false≢true h)
+all true true true true false f g h = absurd (false≢true h)
+all true true true true true false g h = absurd (false≢true h)
+all true true true true true true false h = absurd (false≢true h)
 all true true true true true true true h = (refl, refl, refl, refl, refl, refl, refl)
 
 -- ---- soundness
@@ -86,7 +80,7 @@ module _ (r : List ℕ) where
   unsound h = refuted (soundUsed r) (λ (s : soundUsed r ≡ true). h (used s))
 
   pub unsound-spares : allZero (take 6 (drop 10 r)) ≡ false → soundUsed r ≡ false
-  unsound-spares e = unsound (λ (u : Used r). no (sym e ∙ u .spares))
+  unsound-spares e = unsound (λ (u : Used r). false≢true (sym e ∙ u .spares))
 
   -- where all tests but the last pass, the last decides
   pub used-last : 1 ≤ rev r → mark r ≤ 2 → byte r 7 ≡ 0 → 16 ≤ len r → len r ≤ textMost → allZero (take 6 (drop 10 r)) ≡ true
@@ -127,11 +121,3 @@ module _ (r : List ℕ) where
   pub rev-bound : Bytes r → rev r ≤ greatestRevision
   unfolding rev
   rev-bound b = omega (arith, b .below 4, b .below 5)
-
-  pub mark-bound : Bytes r → mark r < 256
-  unfolding mark
-  mark-bound b = b .below 6
-
-  pub len-bound : Bytes r → len r < 65536
-  unfolding len
-  len-bound b = omega (arith, b .below 8, b .below 9)

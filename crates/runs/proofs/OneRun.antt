@@ -23,7 +23,8 @@ module _ (o w : List ℕ) where
   abbrev pub given : Call → State → Returned
   given (reads i b l v) st =
       let p = readPlan o w (st .store) i (length b) in
-      text (readNumber (readAnswer (st .store) p)) (readBuffer o w (st .store) b p) (lengthOr l (readAnswer (st .store) p)) (seenOr v (readAnswer (st .store) p))
+      let a = readAnswer (st .store) p in
+      text (readNumber a) (readBuffer o w (st .store) b p) (lengthOr l a) (seenOr v a)
   given (adds i t v) st =
       let a = addAnswer (addPlan o w (st .store) i t) in
       revision (storedNumber a) (revisionOr v a)

@@ -1,6 +1,6 @@
 -- Laws of looking for a slot and of counting slots.
 -- Assumes nothing.
-use mathlib.Core.Path.{_≡_, refl, sym, ap, ap₂, _∙_, subst}
+use mathlib.Core.Path.{_≡_, refl, sym, ap, ap₂, _∙_}
 use mathlib.Core.Logic.{⊎-elim}
 use mathlib.Core.Bool.{Bool, true, false, cond, not}
 use mathlib.Core.List.{List}
@@ -9,7 +9,8 @@ use native.Mathlib.Nat.{eq-or-lt-of-le}
 use native.Mathlib.Numerals.{add-one}
 use native.Mathlib.Omega.{arith}
 use borrow.Author.Tests.{eqb-true, eqb-false, eq-eqb, ne-eqb}
-use lib.Dec.{T, eqb}
+use lib.Dec.{eqb}
+use Rattle.block.proofs.BoolLaws.{clash}
 use Rattle.records.specs.Record.{num}
 use Rattle.slots.specs.Slots.{scan, lowest, tally, findBy}
 
@@ -27,9 +28,6 @@ of-below : (p : ℕ → Bool) (b : Bool) (x y j : ℕ) → p x ≡ b → x ≤ j
 of-below p true x y j e l k h = let z : ⊥ = omega arith in absurd z
 of-below p false x y j e l k h =
     ⊎-elim (λ (q : x ≡ j). ap p (sym q) ∙ e) (λ (q : x < j). k q h) (eq-or-lt-of-le l)
-
-clash : (b : Bool) → b ≡ true → b ≡ false → ⊥
-clash b e f = subst T (sym e ∙ f) tt
 
 module _ (p : ℕ → Bool) where
   pub scan-le : (i n : ℕ) → scan p i n ≤ i + n

@@ -31,11 +31,11 @@ readAnswer s (Refuse x) = text.Refused x
 readAnswer s (At k) = text.Read (len (slot s k)) (rev (slot s k))
 
 -- the text to the front of the buffer, the rest of it kept
-abbrev pub readBuffer : List ℕ → List ℕ → List ℕ → List ℕ → Plan → List ℕ
+abbrev pub readBuffer : (o w s b : List ℕ) → Plan → List ℕ
 readBuffer o w s b (Refuse x) = b
 readBuffer o w s b (At k) = textOf o w (slot s k) ++ drop (len (slot s k)) b
 
-abbrev pub ReadCalled : List ℕ → List ℕ → List ℕ → ℕ → List ℕ → Text → List ℕ → Type 0
+abbrev pub ReadCalled : (o w s : List ℕ) (n : ℕ) (b : List ℕ) (a : Text) (b′ : List ℕ) → Type 0
 ReadCalled o w s n b a b′ = (a ≡ readAnswer s (readPlan o w s n (length b))) × (b′ ≡ readBuffer o w s b (readPlan o w s n (length b)))
 
 pub read-determined : (o w s : List ℕ) (n : ℕ) (b : List ℕ) (a a′ : Text) (c c′ : List ℕ)
@@ -48,11 +48,11 @@ abbrev pub addAnswer : Plan → Stored
 addAnswer (Refuse x) = stored.Refused x
 addAnswer (At k) = stored.Revision 1
 
-abbrev pub addStore : List ℕ → List ℕ → ℕ → List ℕ → Plan → List ℕ
+abbrev pub addStore : (w s : List ℕ) (n : ℕ) (t : List ℕ) → Plan → List ℕ
 addStore w s n t (Refuse x) = s
 addStore w s n t (At k) = put s k (sheet w n 1 t)
 
-abbrev pub AddCalled : List ℕ → List ℕ → List ℕ → ℕ → List ℕ → Stored → List ℕ → Type 0
+abbrev pub AddCalled : (o w s : List ℕ) (n : ℕ) (t : List ℕ) (a : Stored) (s′ : List ℕ) → Type 0
 AddCalled o w s n t a s′ = (a ≡ addAnswer (addPlan o w s n t)) × (s′ ≡ addStore w s n t (addPlan o w s n t))
 
 pub add-determined : (o w s : List ℕ) (n : ℕ) (t : List ℕ) (a a′ : Stored) (s′ s″ : List ℕ)
@@ -65,11 +65,11 @@ abbrev pub reviseAnswer : List ℕ → Plan → Stored
 reviseAnswer s (Refuse x) = stored.Refused x
 reviseAnswer s (At k) = stored.Revision (rev (slot s k) + 1)
 
-abbrev pub reviseStore : List ℕ → List ℕ → ℕ → List ℕ → Plan → List ℕ
+abbrev pub reviseStore : (w s : List ℕ) (n : ℕ) (t : List ℕ) → Plan → List ℕ
 reviseStore w s n t (Refuse x) = s
 reviseStore w s n t (At k) = put s k (sheet w n (rev (slot s k) + 1) t)
 
-abbrev pub ReviseCalled : List ℕ → List ℕ → List ℕ → ℕ → ℕ → List ℕ → Stored → List ℕ → Type 0
+abbrev pub ReviseCalled : (o w s : List ℕ) (n v : ℕ) (t : List ℕ) (a : Stored) (s′ : List ℕ) → Type 0
 ReviseCalled o w s n v t a s′ = (a ≡ reviseAnswer s (revisePlan o w s n v t)) × (s′ ≡ reviseStore w s n t (revisePlan o w s n v t))
 
 pub revise-determined : (o w s : List ℕ) (n v : ℕ) (t : List ℕ) (a a′ : Stored) (s′ s″ : List ℕ)
@@ -112,7 +112,7 @@ movedFrom k outcome.Already = k + 1
 movedFrom k outcome.Converted = k + 1
 
 -- a converted slot has its sheet under the new key with the new lead; every other byte is kept
-abbrev pub convertedAt : List ℕ → List ℕ → List ℕ → ℕ → Outcome → List ℕ
+abbrev pub convertedAt : (o w s : List ℕ) (k : ℕ) → Outcome → List ℕ
 convertedAt o w s k outcome.Converted = put s k (sheet w (num (slot s k)) (rev (slot s k)) (textOf o w (slot s k)))
 convertedAt o w s k outcome.Done = s
 convertedAt o w s k outcome.Free = s
@@ -132,7 +132,7 @@ abbrev pub stepStore : List ℕ → List ℕ → List ℕ → Plan → List ℕ
 stepStore o w s (Refuse x) = s
 stepStore o w s (At k) = convertedAt o w s k (outcomeAt s k)
 
-abbrev pub StepCalled : List ℕ → List ℕ → List ℕ → ℕ → Stepped → List ℕ → Type 0
+abbrev pub StepCalled : (o w s : List ℕ) (k : ℕ) (a : Stepped) (s′ : List ℕ) → Type 0
 StepCalled o w s k a s′ = (a ≡ stepAnswer s (stepPlan o w s k)) × (s′ ≡ stepStore o w s (stepPlan o w s k))
 
 pub step-determined : (o w s : List ℕ) (k : ℕ) (a a′ : Stepped) (s′ s″ : List ℕ)

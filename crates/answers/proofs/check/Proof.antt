@@ -25,22 +25,43 @@ returns : tie.Need-returns
 returns c =
     let ch = c .before .before .before .before in
     let a = ch .before .before .args in
-    let e = sym (ch .check .ensures) ∙ c .before .before .x .given .1 in
-    (c .number .ensures ∙ sym (ap checkNumber e), sym (ap (faultOr (a .fault)) e), sym (ap (usedOr (a .used)) e), sym (ap (freeOr (a .free)) e), sym (ap (clearOr (a .clear)) e), sym (ap (oldOr (a .old)) e), sym (ap (newOr (a .new)) e))
+    let e = sym (ch .check .ensures) ∙ c .before .before .x .given .1 in (
+      c .number .ensures ∙ sym (ap checkNumber e),
+      sym (ap (faultOr (a .fault)) e),
+      sym (ap (usedOr (a .used)) e),
+      sym (ap (freeOr (a .free)) e),
+      sym (ap (clearOr (a .clear)) e),
+      sym (ap (oldOr (a .old)) e),
+      sym (ap (newOr (a .new)) e),
+    )
 
 returns-2 : tie.Need-returns-2
 returns-2 c =
     let ch = c .before .before .before in
     let a = ch .before .before .args in
-    let e = sym (ch .check .ensures) ∙ c .before .k .given .1 in
-    (sym (ap checkNumber e), sym (ap (faultOr (a .fault)) e), sym (ap (usedOr (a .used)) e), sym (ap (freeOr (a .free)) e), sym (ap (clearOr (a .clear)) e), sym (ap (oldOr (a .old)) e), sym (ap (newOr (a .new)) e))
+    let e = sym (ch .check .ensures) ∙ c .before .k .given .1 in (
+      sym (ap checkNumber e),
+      sym (ap (faultOr (a .fault)) e),
+      sym (ap (usedOr (a .used)) e),
+      sym (ap (freeOr (a .free)) e),
+      sym (ap (clearOr (a .clear)) e),
+      sym (ap (oldOr (a .old)) e),
+      sym (ap (newOr (a .new)) e),
+    )
 
 returns-3 : tie.Need-returns-3
 returns-3 c =
     let ch = c .before .before .before in
     let a = ch .before .before .args in
-    let e = sym (ch .check .ensures) ∙ c .before .u .given .1 in
-    (sym (ap checkNumber e), sym (ap (faultOr (a .fault)) e), sym (ap (usedOr (a .used)) e), sym (ap (freeOr (a .free)) e), sym (ap (clearOr (a .clear)) e), sym (ap (oldOr (a .old)) e), sym (ap (newOr (a .new)) e))
+    let e = sym (ch .check .ensures) ∙ c .before .u .given .1 in (
+      sym (ap checkNumber e),
+      sym (ap (faultOr (a .fault)) e),
+      sym (ap (usedOr (a .used)) e),
+      sym (ap (freeOr (a .free)) e),
+      sym (ap (clearOr (a .clear)) e),
+      sym (ap (oldOr (a .old)) e),
+      sym (ap (newOr (a .new)) e),
+    )
 
 pub check-spec : {M : Type 1} → statement M
 check-spec =

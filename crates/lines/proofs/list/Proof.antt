@@ -26,8 +26,8 @@ returns : tie.Need-returns
 unfolding tooLong
 returns c =
     let t = c .before .before in
-    let s = t .before .before .before .before .before .before in
-    (listed (s .args .store .now) (listing-long (s .args .store .now) (t .before .before .before .if1 .taken)) (t .text .ensures), omega (arith, t .text .ensures .place))
+    let s : List ℕ = t .before .before .before .before .before .before .args .store .now in
+    (listed s (listing-long s (t .before .before .before .if1 .taken)) (t .text .ensures), omega (arith, t .text .ensures .place))
 
 check-requires : tie.Need-check-requires
 check-requires c κs = search needs
@@ -89,7 +89,8 @@ returns-3 c =
     let k = n .before .before .before .before in
     let h = k .before .before in
     let s : List ℕ = h .before .before .before .before .args .store .now in
-    (listed s (listing-checked s (Fault (k .k .given .0 .0)) (h .before .if1 .left) (sym (k .k .given .1) ∙ h .check .ensures)) (n .named2 .ensures .0), omega (arith, n .named2 .ensures .1))
+    let e : Fault (k .k .given .0 .0) ≡ checkAnswer s = sym (k .k .given .1) ∙ h .check .ensures in
+    (listed s (listing-checked s (Fault (k .k .given .0 .0)) (h .before .if1 .left) e) (n .named2 .ensures .0), omega (arith, n .named2 .ensures .1))
 
 same-length-4 : tie.Need-same-length-4
 same-length-4 c = search needs
@@ -101,8 +102,9 @@ returns-4 c =
     let u = l .before .before .before in
     let h = u .before .before in
     let s : List ℕ = h .before .before .before .before .args .store .now in
-    let v = u .used .given .0 in (
-      listed s (listing-checked s (Counts (v .0) (v .1 .0) (v .1 .1 .0) (v .1 .1 .1 .0) (v .1 .1 .1 .1 .0)) (h .before .if1 .left) (sym (u .used .given .1) ∙ h .check .ensures))
+    let v = u .used .given .0 in
+    let e : Counts (v .0) (v .1 .0) (v .1 .1 .0) (v .1 .1 .1 .0) (v .1 .1 .1 .1 .0) ≡ checkAnswer s = sym (u .used .given .1) ∙ h .check .ensures in (
+      listed s (listing-checked s (Counts (v .0) (v .1 .0) (v .1 .1 .0) (v .1 .1 .1 .0) (v .1 .1 .1 .1 .0)) (h .before .if1 .left) e)
           (laid-then (l .used-lines .ensures .0) (m .counts .ensures .0)),
       omega (arith, l .used-lines .ensures .1, m .counts .ensures .1),
     )

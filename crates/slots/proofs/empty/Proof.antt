@@ -38,8 +38,8 @@ returns c =
     let p = cl .before .before .before in
     let s : List ℕ = p .args .s .now in
     let k : ℕ = p .args .k in
-    slot-changed s k (cl .clear .last .0)
-    ∙ ap (put s k) (cl .clear .ensures ∙ emptying (take (k * recordSize + recordSize - k * recordSize) (drop (k * recordSize) s)) (ap length (slot-part s k) ∙ length-slot s k (p .pre)))
+    let x : List ℕ = take (k * recordSize + recordSize - k * recordSize) (drop (k * recordSize) s) in
+    slot-changed s k (cl .clear .last .0) ∙ ap (put s k) (cl .clear .ensures ∙ emptying x (ap length (slot-part s k) ∙ length-slot s k (p .pre)))
 
 pub empty-spec : {M : Type 1} → statement M
 empty-spec =

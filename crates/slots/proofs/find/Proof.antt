@@ -23,7 +23,11 @@ count-requires c κs = tt
 loop-holds : tie.Need-loop-holds Inv-loop μ-loop
 loop-holds c =
     let a = c .before .before .args in
-    (c .count .ensures, omega arith, find-start (slots (a .s .now)) (slot (a .s .now)) (a .n) ∙ ap (λ (m : ℕ). scan (hasNum (slot (a .s .now)) (a .n)) 0 (m - 0)) (sym (c .count .ensures)))
+    let s : List ℕ = a .s .now in (
+      c .count .ensures,
+      omega arith,
+      find-start (slots s) (slot s) (a .n) ∙ ap (λ (m : ℕ). scan (hasNum (slot s) (a .n)) 0 (m - 0)) (sym (c .count .ensures)),
+    )
 
 number-at-requires : tie.Need-number-at-requires Inv-loop μ-loop
 number-at-requires c κs = omega arith

@@ -1,4 +1,5 @@
--- `lagunedo_job_step` meets its contract: a walk of its MIR, by hand, since a struct is lent; the job and the outcome are opened, `answers::step` is called, of which only its contract is known, its answer is written into both, and they are closed.
+-- `lagunedo_job_step` meets its contract: a walk of its MIR, by hand, since a struct is lent; the job and the outcome are opened, `answers::step` is called,
+-- of which only its contract is known, its answer is written into both, and they are closed.
 -- Assumes nothing.
 use mathlib.Core.Path.{_≡_, refl, ap}
 use Prim.Native.Nat.{ℕ, _<_, _^_}
@@ -17,8 +18,10 @@ use ghost.Atoms.{Atoms, sem}
 use contract.Monad.{Fun, fact}
 use contract.Lifetimes.{Lfts, Shares}
 use contract.Running.{givenOf, tables, tablesOf}
-use types.Kit.{Given, ‵, raw, _⊛_, ⋆, some, later, _$_, _∵_, !, qed, by, move, keep, drop, use1, use2, split, join, pick, rewrite, fsplit, fsplit3, fjoin, fjoin3, feqL, feqI, fltL, suffices, frame, await, done}
-use types.Run.{look, store, init, forget, stop, hop, fld, from, load, addr, of-opd, and-then, no-more, assigns, land, returns, enter, alloc1, alloc0, params1, pass1, pass0, free1, free0}
+use types.Kit.{Given, ‵, raw, _⊛_, ⋆, some, later, _$_, _∵_, !, qed, by, move, keep, drop, use1, use2, split, join, pick, rewrite}
+use types.Kit.{fsplit, fsplit3, fjoin, fjoin3, feqL, feqI, fltL, suffices, frame, await, done}
+use types.Run.{look, store, init, forget, stop, hop, fld, from, load, addr, of-opd, and-then, no-more, assigns, land}
+use types.Run.{returns, enter, alloc1, alloc0, params1, pass1, pass0, free1, free0}
 use types.Part.{agg, whole, sub, look-in, store-in}
 use types.SemTy.{Body}
 use sound.WpLaws.{FmC, fmOf, WpFn-mono}
@@ -38,7 +41,8 @@ use denote.Triple.Statement.{Contract, Triple}
 use denote.Triple.Call.{calls-at}
 use denote.Triple.Clauses.{ensured, lasts}
 use denote.Triple.Table.{entered, cited}
-use denote.Triple.Walked.{says, Stays, stay-ref, stay-dropped, gave-slice, walkOf, AllGo, goes-ref, goes-dropped, goes-gave-slice, Walks, ends-at, walked, walk-meets}
+use denote.Triple.Walked.{says, Stays, stay-ref, stay-dropped, gave-slice, walkOf}
+use denote.Triple.Walked.{AllGo, goes-ref, goes-dropped, goes-gave-slice, Walks, ends-at, walked, walk-meets}
 use denote.Exit.{yes}
 use denote.Signature.{plain, shrSliceOf}
 use Rattle.answers.specs.Sheets.{StepForC}
@@ -83,8 +87,10 @@ Arg = RefT Job × (RefT (List ℕ) × (RefT (List ℕ) × (RefT (List ℕ) × (R
 abbrev Vs : Type 0
 Vs = List Val × (List Val × (List Val × (List Val × (List Val × Unit {0}))))
 
-module _ {M : Type 1} (𝓤 : URA M) (H : Heap 𝓤) (A : Atoms 𝓤) (W : Given 𝓤 H A) (at-mem : Memory → SProp 𝓤) (run : Routine → Fun 𝓤) (κ₀ κ₁ κ₂ κ₃ κ₄ : Lft) (q₀ q₁ q₂ q₃ q₄ : Share)
-    (b o : ℕ) (γ : GName) (h : Job) (x₁ x₂ x₃ : RefT (List ℕ)) (b′ o′ : ℕ) (γ′ : GName) (c : ℕ) (room₁ : Room u8 (length (x₁ .now))) (room₂ : Room u8 (length (x₂ .now))) (room₃ : Room u8 (length (x₃ .now))) where
+module _ {M : Type 1} (𝓤 : URA M) (H : Heap 𝓤) (A : Atoms 𝓤) (W : Given 𝓤 H A) (at-mem : Memory → SProp 𝓤) (run : Routine → Fun 𝓤)
+    (κ₀ κ₁ κ₂ κ₃ κ₄ : Lft) (q₀ q₁ q₂ q₃ q₄ : Share)
+    (b o : ℕ) (γ : GName) (h : Job) (x₁ x₂ x₃ : RefT (List ℕ)) (b′ o′ : ℕ) (γ′ : GName) (c : ℕ)
+    (room₁ : Room u8 (length (x₁ .now))) (room₂ : Room u8 (length (x₂ .now))) (room₃ : Room u8 (length (x₃ .now))) where
   abbrev κs : Lfts 5
   κs = (κ₀, (κ₁, (κ₂, (κ₃, (κ₄, tt)))))
 
@@ -116,7 +122,8 @@ module _ {M : Type 1} (𝓤 : URA M) (H : Heap 𝓤) (A : Atoms 𝓤) (W : Given
   abbrev Post : Val → SProp 𝓤
   Post = walkOf 𝓤 H A mine.ended stayed (mine.clauses 𝓤 H A at-mem run) .post ((κs, qs, tt, a, vals), tt)
 
-  -- what the triple of `answers::step` binds outside: the slices' own lifetimes, shares and values, and the two numbers. So no lifetime is made for the call, and nothing has to come back
+  -- what the triple of `answers::step` binds outside: the slices' own lifetimes, shares and values, and the two numbers.
+  -- So no lifetime is made for the call, and nothing has to come back
   abbrev κs′ : Lfts 3
   κs′ = (κ₁, (κ₂, (κ₃, tt)))
 
@@ -133,7 +140,8 @@ module _ {M : Type 1} (𝓤 : URA M) (H : Heap 𝓤) (A : Atoms 𝓤) (W : Given
       (sem 𝓤 H A (owns (ShrSlice (named 0) κ₁ u8 ∷ ShrSlice (named 1) κ₂ u8 ∷ MutSlice (named 2) κ₃ u8 ∷ usize ∷ u32 ∷ []) a′ vals′)))
       (Step 𝓤 H A at-mem run .pre to-step)
   goes =
-      qed W ((‵ (flft κ₁ q₁) ⊛ ‵ (flft κ₂ q₂) ⊛ ‵ (flft κ₃ q₃) ⊛ ‵ ftrue) ∷ ‵ (owns (ShrSlice (named 0) κ₁ u8 ∷ ShrSlice (named 1) κ₂ u8 ∷ MutSlice (named 2) κ₃ u8 ∷ usize ∷ u32 ∷ []) a′ vals′) ∷ []) ∵
+      qed W ((‵ (flft κ₁ q₁) ⊛ ‵ (flft κ₂ q₂) ⊛ ‵ (flft κ₃ q₃) ⊛ ‵ ftrue)
+      ∷ ‵ (owns (ShrSlice (named 0) κ₁ u8 ∷ ShrSlice (named 1) κ₂ u8 ∷ MutSlice (named 2) κ₃ u8 ∷ usize ∷ u32 ∷ []) a′ vals′) ∷ []) ∵
       join ! $ frame ! $ done !
 
   -- what is said of the answer r and the store's last bytes zs
@@ -155,13 +163,16 @@ module _ {M : Type 1} (𝓤 : URA M) (H : Heap 𝓤) (A : Atoms 𝓤) (W : Given
       qed W (‵ (fobs γ (T.the-row .coded .code (h′ r))) ∷ ‵ (fbor κ₀ (Body (mem T.the-row) b o γ)) ∷ ‵ (flft κ₀ q₀)
       ∷ ‵ (fobs γ′ (u32 .coded .code (r .outcome))) ∷ ‵ (fbor κ₄ (Body (mem u32) b′ o′ γ′)) ∷ ‵ (flft κ₄ q₄)
       ∷ (‵ (flft κ₁ q₁) ⊛ ‵ (flft κ₂ q₂) ⊛ ‵ (flft κ₃ q₃) ⊛ ‵ ftrue) ∷ ‵ (finally u8 (x₃ .name) zs) ∷ []) ∵
-      suffices ! _ (ends-at 𝓤 H A mine.ended stayed (mine.clauses 𝓤 H A at-mem run) W ((κs, qs, tt, a, vals), tt) (vint w32 (r .number)) (r .number) (h′ r, (tt, (tt, (zs, (r .outcome, tt))))) (tt, (tt, (tt, (l, (tt, tt)))))) $ says ! e $
+      suffices ! _ (ends-at 𝓤 H A mine.ended stayed (mine.clauses 𝓤 H A at-mem run) W ((κs, qs, tt, a, vals), tt)
+      (vint w32 (r .number)) (r .number) (h′ r, (tt, (tt, (zs, (r .outcome, tt))))) (tt, (tt, (tt, (l, (tt, tt)))))) $ says ! e $
       -- the tokens
       move ! (6 ∷ []) $ split ! $ move ! (1 ∷ []) $ split ! $ move ! (1 ∷ []) $ split ! $
       -- [κ₃; true; κ₂; κ₁; obs; the job's borrow; κ₀; obs; the outcome's borrow; κ₄; the last bytes]
-      move ! (9 ∷ 1 ∷ []) $ join ! $ move ! (1 ∷ 0 ∷ []) $ join ! $ move ! (1 ∷ 0 ∷ []) $ join ! $ move ! (1 ∷ 0 ∷ []) $ join ! $ move ! (3 ∷ 0 ∷ []) $ join ! $ frame ! $
+      move ! (9 ∷ 1 ∷ []) $ join ! $ move ! (1 ∷ 0 ∷ []) $ join ! $ move ! (1 ∷ 0 ∷ []) $ join ! $
+      move ! (1 ∷ 0 ∷ []) $ join ! $ move ! (3 ∷ 0 ∷ []) $ join ! $ frame ! $
       -- [obs; the job's borrow; obs; the outcome's borrow; the last bytes]
-      nothing ! $ feqI ! (List Val) (vptr b′ o′ ∷ []) (vptr b′ o′ ∷ []) refl $ move ! (0 ∷ 4 ∷ 5 ∷ []) $ fjoin3 ! $ fjoin ! $ move ! (3 ∷ 0 ∷ []) $ fjoin ! $ nothing ! $ fjoin ! $ nothing ! $ fjoin ! $
+      nothing ! $ feqI ! (List Val) (vptr b′ o′ ∷ []) (vptr b′ o′ ∷ []) refl $ move ! (0 ∷ 4 ∷ 5 ∷ []) $ fjoin3 ! $ fjoin ! $
+      move ! (3 ∷ 0 ∷ []) $ fjoin ! $ nothing ! $ fjoin ! $ nothing ! $ fjoin ! $
       feqI ! (List Val) (vptr b o ∷ []) (vptr b o ∷ []) refl $ move ! (0 ∷ 2 ∷ 3 ∷ []) $ fjoin3 ! $ fjoin ! $
       owned ! u32 (Is u32) (uint-makes 𝓤 H A W w32) (r .number) _ (refl, fits) $ move ! (1 ∷ 0 ∷ []) $ done !
 
@@ -169,58 +180,100 @@ module _ {M : Type 1} (𝓤 : URA M) (H : Heap 𝓤) (A : Atoms 𝓤) (W : Given
     walk : ent 𝓤 (onEntry 𝓤 H A mine.signature κs qs a vals) (WpFn 𝓤 H C Λ code.function (vptr b o ∷ s₁ ∷ s₂ ∷ s₃ ∷ vptr b′ o′ ∷ []) Post)
     walk =
         qed W ((‵ (flft κ₀ q₀) ⊛ ‵ (flft κ₁ q₁) ⊛ ‵ (flft κ₂ q₂) ⊛ ‵ (flft κ₃ q₃) ⊛ ‵ (flft κ₄ q₄) ⊛ ‵ ftrue)
-        ∷ ‵ (owns (MutRef (named 0) κ₀ T.the-row ∷ ShrSlice (named 1) κ₁ u8 ∷ ShrSlice (named 2) κ₂ u8 ∷ MutSlice (named 3) κ₃ u8 ∷ MutRef (named 4) κ₄ u32 ∷ []) a vals) ∷ []) ∵
+        ∷ ‵ (owns (MutRef (named 0) κ₀ T.the-row ∷ ShrSlice (named 1) κ₁ u8 ∷ ShrSlice (named 2) κ₂ u8 ∷ MutSlice (named 3) κ₃ u8
+        ∷ MutRef (named 4) κ₄ u32 ∷ []) a vals) ∷ []) ∵
         -- the tokens of the slices are put together as the callee asks for them
         split ! $ move ! (1 ∷ []) $ split ! $ move ! (1 ∷ []) $ split ! $ move ! (1 ∷ []) $ split ! $ move ! (1 ∷ []) $ split ! $
         move ! (2 ∷ 1 ∷ []) $ join ! $ move ! (2 ∷ 0 ∷ []) $ join ! $ move ! (2 ∷ 0 ∷ []) $ join ! $
         -- [the slices' tokens; κ₄; κ₀; what the parameters own]
-        move ! (3 ∷ []) $ fsplit ! $ fsplit3 ! $ drop ! $ move ! (2 ∷ []) $ fsplit ! $ move ! (1 ∷ []) $ fsplit ! $ move ! (1 ∷ []) $ fsplit ! $ move ! (1 ∷ []) $ fsplit ! $ fsplit3 ! $ drop ! $
+        move ! (3 ∷ []) $ fsplit ! $ fsplit3 ! $ drop ! $ move ! (2 ∷ []) $ fsplit ! $ move ! (1 ∷ []) $ fsplit ! $
+        move ! (1 ∷ []) $ fsplit ! $ move ! (1 ∷ []) $ fsplit ! $ fsplit3 ! $ drop ! $
         -- [obs; the outcome's borrow; true; store's; new's; old's; obs; the job's borrow; the slices' tokens; κ₄; κ₀]
         move ! (6 ∷ 7 ∷ 10 ∷ 0 ∷ 1 ∷ 9 ∷ 8 ∷ 5 ∷ 4 ∷ 3 ∷ []) $
         enter ! C Λ code.function (vptr b o ∷ s₁ ∷ s₂ ∷ s₃ ∷ vptr b′ o′ ∷ []) _ $
-        alloc1 ! (λ l₀. alloc1 ! (λ l₁. alloc1 ! (λ l₂. alloc1 ! (λ l₃. alloc1 ! (λ l₄. alloc1 ! (λ l₅. alloc1 ! (λ l₆. alloc1 ! (λ l₇. alloc1 ! (λ l₈. alloc1 ! (λ l₉. alloc1 ! (λ l₁₀. alloc0 ! $ params1 ! $
-        pass1 ! (init ! 18 refl (tt, tt)) $ pass1 ! (init ! 16 refl (tt, (tt, (record { fits = room₁ .0 }, tt)))) $ pass1 ! (init ! 14 refl (tt, (tt, (record { fits = room₂ .0 }, tt)))) $
+        alloc1 ! (λ l₀. alloc1 ! (λ l₁. alloc1 ! (λ l₂. alloc1 ! (λ l₃. alloc1 ! (λ l₄. alloc1 ! (λ l₅.
+        alloc1 ! (λ l₆. alloc1 ! (λ l₇. alloc1 ! (λ l₈. alloc1 ! (λ l₉. alloc1 ! (λ l₁₀. alloc0 ! $ params1 ! $
+        pass1 ! (init ! 18 refl (tt, tt)) $ pass1 ! (init ! 16 refl (tt, (tt, (record { fits = room₁ .0 }, tt)))) $
+        pass1 ! (init ! 14 refl (tt, (tt, (record { fits = room₂ .0 }, tt)))) $
         pass1 ! (init ! 12 refl (tt, (tt, (record { fits = room₃ .0 }, tt)))) $ pass1 ! (init ! 10 refl (tt, tt)) $ pass0 ! $
         -- the job is opened
-        move ! (22 ∷ 23 ∷ 24 ∷ []) $ opens ! tt T.the-row {h = h} b o (λ vs. spelt ! T.the-row (Is T.the-row) (shows 𝓤 H A T.the-row) (LL.vals T.the-type T′.the-laws) (LL.tells T.the-type T′.the-laws) fullShare h vs b o $
+        move ! (22 ∷ 23 ∷ 24 ∷ []) $ opens ! tt T.the-row {h = h} b o (λ vs.
+        spelt ! T.the-row (Is T.the-row) (shows 𝓤 H A T.the-row) (LL.vals T.the-type T′.the-laws) (LL.tells T.the-type T′.the-laws) fullShare h vs b o $
         move ! (1 ∷ []) $ facts ! T.the-row (Is T.the-row) (shows 𝓤 H A T.the-row) h (jobAt (h .place) ∷ []) (λ g.
         -- the outcome is opened
         move ! (26 ∷ 27 ∷ 28 ∷ []) $ opens ! tt u32 {h = c} b′ o′ (λ us. tied ! fullShare (u32 .mir) us b′ o′ $ move ! (1 ∷ []) $ fltL ! (λ c-fits.
-        -- [*outcome; its open borrow; obs; auth; *job; its open borrow; obs; auth; _10; …; _9; …; … ; room for _0; …; the slices' tokens; old's; new's; store's; true]
-        assigns ! (of-opd ! (load ! (from ! (hop ! (look ! 26 refl) (fld ! refl (stop !)))) (look-in ! 4 (sub ! 0 refl (whole !))))) (from ! (stop !)) (init ! 16 refl (tt, record { fits = LL.owed T.the-type T′.the-laws h _ g .0 .1 })) $
-        assigns ! (of-opd ! (load ! (from ! (hop ! (look ! 18 refl) (stop !))) (look ! 0 refl))) (from ! (stop !)) (init ! 14 refl (tt, record { fits = c-fits })) $
+        -- [*outcome; its open borrow; obs; auth; *job; its open borrow; obs; auth; _10; …; _9; …; … ; room for _0; …;
+        -- the slices' tokens; old's; new's; store's; true]
+        assigns ! (of-opd ! (load ! (from ! (hop ! (look ! 26 refl) (fld ! refl (stop !)))) (look-in ! 4 (sub ! 0 refl (whole !)))))
+        (from ! (stop !)) (init ! 16 refl (tt, record { fits = LL.owed T.the-type T′.the-laws h _ g .0 .1 })) $
+        assigns ! (of-opd ! (load ! (from ! (hop ! (look ! 18 refl) (stop !))) (look ! 0 refl)))
+        (from ! (stop !)) (init ! 14 refl (tt, record { fits = c-fits })) $
         assigns ! (addr ! (from ! (fld ! refl (hop ! (look-in ! 20 (sub ! 0 refl (whole !))) (stop !))))) (from ! (stop !)) (init ! 10 refl (tt, tt)) $
-        assigns ! (agg ! (and-then ! (load ! (from ! (stop !)) (look ! 10 refl)) (and-then ! (load ! (from ! (fld ! refl (stop !))) (look-in ! 20 (sub ! 1 refl (whole !)))) (no-more !)))) (from ! (stop !)) (init ! 8 refl (tt, (tt, (record { fits = room₃ .0 }, tt)))) $
+        assigns ! (agg ! (and-then ! (load ! (from ! (stop !)) (look ! 10 refl))
+        (and-then ! (load ! (from ! (fld ! refl (stop !))) (look-in ! 20 (sub ! 1 refl (whole !)))) (no-more !))))
+        (from ! (stop !)) (init ! 8 refl (tt, (tt, (record { fits = room₃ .0 }, tt)))) $
         -- what the callee asks
-        nothing ! $ owned ! u32 (Is u32) (uint-makes 𝓤 H A W w32) c _ (refl, c-fits) $ fjoin ! $ owned ! usize (Is usize) (uint-makes 𝓤 H A W w64) (h .place) _ (refl, LL.owed T.the-type T′.the-laws h _ g .0 .1) $ fjoin ! $
-        move ! (34 ∷ 0 ∷ []) $ fjoin ! $ move ! (33 ∷ 0 ∷ []) $ fjoin ! $ move ! (32 ∷ 0 ∷ []) $ fjoin ! $ move ! (31 ∷ 0 ∷ []) $ use2 W (raw (Step 𝓤 H A at-mem run .pre to-step)) goes $
-        calls-at ! fm (Step 𝓤 H A at-mem run) known to-step (and-then ! (load ! (from ! (stop !)) (look ! 25 refl)) (and-then ! (load ! (from ! (stop !)) (look ! 23 refl)) (and-then ! (load ! (from ! (stop !)) (look ! 9 refl)) (and-then ! (load ! (from ! (stop !)) (look ! 17 refl)) (and-then ! (load ! (from ! (stop !)) (look ! 15 refl)) (no-more !)))))) (λ w.
-        use1 W (later (some (λ (r : StepValues). ((‵ (flft κ₁ q₁) ⊛ ‵ (flft κ₂ q₂) ⊛ ‵ (flft κ₃ q₃) ⊛ ‵ ftrue) ⊛ ‵ (S.the-row .own r (w ∷ []))) ⊛ raw (ensured 𝓤 H A steps.ended (steps.clauses 𝓤 H A at-mem run) κs′ a′ tt r)))) (id⊢ 𝓤 _) $ await ! tt $ pick ! (λ r.
+        nothing ! $ owned ! u32 (Is u32) (uint-makes 𝓤 H A W w32) c _ (refl, c-fits) $ fjoin ! $
+        owned ! usize (Is usize) (uint-makes 𝓤 H A W w64) (h .place) _ (refl, LL.owed T.the-type T′.the-laws h _ g .0 .1) $ fjoin ! $
+        move ! (34 ∷ 0 ∷ []) $ fjoin ! $ move ! (33 ∷ 0 ∷ []) $ fjoin ! $ move ! (32 ∷ 0 ∷ []) $ fjoin ! $
+        move ! (31 ∷ 0 ∷ []) $ use2 W (raw (Step 𝓤 H A at-mem run .pre to-step)) goes $
+        calls-at ! fm (Step 𝓤 H A at-mem run) known to-step
+        (and-then ! (load ! (from ! (stop !)) (look ! 25 refl)) (and-then ! (load ! (from ! (stop !)) (look ! 23 refl))
+        (and-then ! (load ! (from ! (stop !)) (look ! 9 refl)) (and-then ! (load ! (from ! (stop !)) (look ! 17 refl))
+        (and-then ! (load ! (from ! (stop !)) (look ! 15 refl)) (no-more !)))))) (λ w.
+        use1 W (later (some (λ (r : StepValues). ((‵ (flft κ₁ q₁) ⊛ ‵ (flft κ₂ q₂) ⊛ ‵ (flft κ₃ q₃) ⊛ ‵ ftrue) ⊛ ‵ (S.the-row .own r (w ∷ [])))
+        ⊛ raw (ensured 𝓤 H A steps.ended (steps.clauses 𝓤 H A at-mem run) κs′ a′ tt r)))) (id⊢ 𝓤 _) $ await ! tt $ pick ! (λ r.
         -- what `answers::step` ensures, at some last bytes of the store
-        split ! $ move ! (1 ∷ []) $ use1 W (some (λ (zs : Unit {0} × (Unit {0} × (List ℕ × (Unit {0} × (Unit {0} × Unit {0}))))). ‵ (lasts steps.ended κs′ a′ zs) ⊛ raw (fact 𝓤 (Said r (zs .1 .1 .0))))) (id⊢ 𝓤 _) $ pick ! (λ zs.
-        split ! $ move ! (1 ∷ []) $ heard ! (Said r (zs .1 .1 .0)) (λ e. fsplit ! $ drop ! $ fsplit ! $ drop ! $ fsplit ! $ fsplit ! $ move ! (1 ∷ []) $ feqL ! (λ l.
+        split ! $ move ! (1 ∷ []) $ use1 W (some (λ (zs : Unit {0} × (Unit {0} × (List ℕ × (Unit {0} × (Unit {0} × Unit {0}))))).
+        ‵ (lasts steps.ended κs′ a′ zs) ⊛ raw (fact 𝓤 (Said r (zs .1 .1 .0))))) (id⊢ 𝓤 _) $ pick ! (λ zs.
+        split ! $ move ! (1 ∷ []) $ heard ! (Said r (zs .1 .1 .0)) (λ e. fsplit ! $ drop ! $ fsplit ! $ drop ! $ fsplit ! $ fsplit ! $
+        move ! (1 ∷ []) $ feqL ! (λ l.
         move ! (2 ∷ []) $ split ! $ move ! (1 ∷ []) $ facts ! S.the-row (Is S.the-row) (shows 𝓤 H A S.the-row) r (w ∷ []) (λ is.
-        -- [the slices' tokens; the last bytes; …; *outcome; its open borrow; obs; auth; *job; its open borrow; obs; auth; _10; …; _9; …; _8; …; … ; room for _0; …]
-        land ! (from ! (stop !)) (init ! 15 refl (LL.lawful S.the-type S′.the-laws 𝓤 H A W .typed r _ is .0)) $ rewrite ! 15 (λ (u : Val). ‵ (fat fullShare S′.mir l₈ 0 u)) (ap only (LL.tells S.the-type S′.the-laws r (w ∷ []) is)) refl $
-        assigns ! (of-opd ! (load ! (from ! (fld ! refl (stop !))) (look-in ! 15 (sub ! 1 refl (whole !))))) (from ! (hop ! (look ! 29 refl) (fld ! refl (stop !)))) (store-in ! 7 (sub ! 0 refl (whole !)) (tt, record { fits = LL.owed S.the-type S′.the-laws r _ is .1 .0 .1 })) $
-        assigns ! (of-opd ! (load ! (from ! (fld ! refl (stop !))) (look-in ! 15 (sub ! 2 refl (whole !))))) (from ! (hop ! (look ! 21 refl) (stop !))) (store ! 3 refl (tt, record { fits = LL.owed S.the-type S′.the-laws r _ is .1 .1 .0 .1 })) $
-        assigns ! (of-opd ! (load ! (from ! (fld ! refl (stop !))) (look-in ! 15 (sub ! 0 refl (whole !))))) (from ! (stop !)) (init ! 31 refl (tt, record { fits = LL.owed S.the-type S′.the-laws r _ is .0 .1 })) $
+        -- [the slices' tokens; the last bytes; …; *outcome; its open borrow; obs; auth; *job; its open borrow; obs; auth;
+        -- _10; …; _9; …; _8; …; … ; room for _0; …]
+        land ! (from ! (stop !)) (init ! 15 refl (LL.lawful S.the-type S′.the-laws 𝓤 H A W .typed r _ is .0)) $
+        rewrite ! 15 (λ (u : Val). ‵ (fat fullShare S′.mir l₈ 0 u)) (ap only (LL.tells S.the-type S′.the-laws r (w ∷ []) is)) refl $
+        assigns ! (of-opd ! (load ! (from ! (fld ! refl (stop !))) (look-in ! 15 (sub ! 1 refl (whole !)))))
+        (from ! (hop ! (look ! 29 refl) (fld ! refl (stop !))))
+        (store-in ! 7 (sub ! 0 refl (whole !)) (tt, record { fits = LL.owed S.the-type S′.the-laws r _ is .1 .0 .1 })) $
+        assigns ! (of-opd ! (load ! (from ! (fld ! refl (stop !))) (look-in ! 15 (sub ! 2 refl (whole !)))))
+        (from ! (hop ! (look ! 21 refl) (stop !))) (store ! 3 refl (tt, record { fits = LL.owed S.the-type S′.the-laws r _ is .1 .1 .0 .1 })) $
+        assigns ! (of-opd ! (load ! (from ! (fld ! refl (stop !))) (look-in ! 15 (sub ! 0 refl (whole !)))))
+        (from ! (stop !)) (init ! 31 refl (tt, record { fits = LL.owed S.the-type S′.the-laws r _ is .0 .1 })) $
         -- the outcome and the job are closed
-        owned ! u32 (Is u32) (uint-makes 𝓤 H A W w32) (r .outcome) (vint w32 (r .outcome) ∷ []) (refl, LL.owed S.the-type S′.the-laws r _ is .1 .1 .0 .1) $ move ! (4 ∷ 0 ∷ 5 ∷ 6 ∷ 7 ∷ []) $ closes ! tt u32 (r .outcome) (vint w32 (r .outcome) ∷ []) b′ o′ $
-        owned ! T.the-row (Is T.the-row) (LL.makes T.the-type T′.the-plain 𝓤 H A) (h′ r) _ (made r (LL.owed S.the-type S′.the-laws r _ is .1 .0 .1)) $ move ! (7 ∷ 0 ∷ 8 ∷ 9 ∷ 10 ∷ []) $ closes ! tt T.the-row (h′ r) (jobAt (r .place) ∷ []) b o $
+        owned ! u32 (Is u32) (uint-makes 𝓤 H A W w32) (r .outcome) (vint w32 (r .outcome) ∷ []) (refl, LL.owed S.the-type S′.the-laws r _ is .1 .1 .0 .1) $
+        move ! (4 ∷ 0 ∷ 5 ∷ 6 ∷ 7 ∷ []) $ closes ! tt u32 (r .outcome) (vint w32 (r .outcome) ∷ []) b′ o′ $
+        owned ! T.the-row (Is T.the-row) (LL.makes T.the-type T′.the-plain 𝓤 H A) (h′ r) _ (made r (LL.owed S.the-type S′.the-laws r _ is .1 .0 .1)) $
+        move ! (7 ∷ 0 ∷ 8 ∷ 9 ∷ 10 ∷ []) $ closes ! tt T.the-row (h′ r) (jobAt (r .place) ∷ []) b o $
         -- [obs; the job's borrow; κ₀; obs; the outcome's borrow; κ₄; the slices' tokens; the last bytes; …; _10; …; … ; _0; …]
-        returns ! (look ! 29 refl) $ forget ! 9 refl $ forget ! 11 refl $ forget ! 13 refl $ forget ! 15 refl $ forget ! 17 refl $ forget ! 19 refl $ forget ! 21 refl $ forget ! 23 refl $ forget ! 25 refl $ forget ! 27 refl $ forget ! 29 refl $
-        move ! (29 ∷ 30 ∷ []) $ free1 ! $ move ! (27 ∷ 28 ∷ []) $ free1 ! $ move ! (25 ∷ 26 ∷ []) $ free1 ! $ move ! (23 ∷ 24 ∷ []) $ free1 ! $ move ! (21 ∷ 22 ∷ []) $ free1 ! $ move ! (19 ∷ 20 ∷ []) $ free1 ! $
-        move ! (17 ∷ 18 ∷ []) $ free1 ! $ move ! (15 ∷ 16 ∷ []) $ free1 ! $ move ! (13 ∷ 14 ∷ []) $ free1 ! $ move ! (11 ∷ 12 ∷ []) $ free1 ! $ move ! (9 ∷ 10 ∷ []) $ free1 ! $ free0 ! $
+        returns ! (look ! 29 refl) $ forget ! 9 refl $ forget ! 11 refl $ forget ! 13 refl $ forget ! 15 refl $ forget ! 17 refl $
+        forget ! 19 refl $ forget ! 21 refl $ forget ! 23 refl $ forget ! 25 refl $ forget ! 27 refl $ forget ! 29 refl $
+        move ! (29 ∷ 30 ∷ []) $ free1 ! $ move ! (27 ∷ 28 ∷ []) $ free1 ! $ move ! (25 ∷ 26 ∷ []) $ free1 ! $ move ! (23 ∷ 24 ∷ []) $ free1 ! $
+        move ! (21 ∷ 22 ∷ []) $ free1 ! $ move ! (19 ∷ 20 ∷ []) $ free1 ! $ move ! (17 ∷ 18 ∷ []) $ free1 ! $ move ! (15 ∷ 16 ∷ []) $ free1 ! $
+        move ! (13 ∷ 14 ∷ []) $ free1 ! $ move ! (11 ∷ 12 ∷ []) $ free1 ! $ move ! (9 ∷ 10 ∷ []) $ free1 ! $ free0 ! $
         keep ! (0 ∷ 1 ∷ 2 ∷ 3 ∷ 4 ∷ 5 ∷ 6 ∷ 7 ∷ []) $ by ! (exits r (zs .1 .1 .0) e l (LL.owed S.the-type S′.the-laws r _ is .0 .1)))))))))))))))))))))))
 
 module _ {M : Type 1} (𝓤 : URA M) (H : Heap 𝓤) (A : Atoms 𝓤) (W : Given 𝓤 H A) (at-mem : Memory → SProp 𝓤) (run : Routine → Fun 𝓤) where
-  step-walks : (C : Calls 𝓤 H) (Λ : Loops 𝓤 H) → FmC 𝓤 H (W .laws) C → Triple 𝓤 (C #answers·step) (Step 𝓤 H A at-mem run) → Walks 𝓤 H A mine.ended stayed (WpFn 𝓤 H C Λ code.function) (mine.clauses 𝓤 H A at-mem run)
-  step-walks C Λ fm known = walked 𝓤 H A mine.ended stayed (mine.clauses 𝓤 H A at-mem run) (WpFn 𝓤 H C Λ code.function) (λ κs. (ptr-vals, (slice-vals, (slice-vals, (slice-vals, (ptr-vals, tt))))))
-      (λ κs. (mut-tells (named 0) (κs .0) T.the-row, (shr-slice-tells (named 1) (κs .1 .0) u8, (shr-slice-tells (named 2) (κs .1 .1 .0) u8, (mut-slice-tells (named 3) (κs .1 .1 .1 .0) u8, (mut-tells (named 4) (κs .1 .1 .1 .1 .0) u32, tt))))))
+  step-walks : (C : Calls 𝓤 H) (Λ : Loops 𝓤 H) → FmC 𝓤 H (W .laws) C → Triple 𝓤 (C #answers·step) (Step 𝓤 H A at-mem run)
+      → Walks 𝓤 H A mine.ended stayed (WpFn 𝓤 H C Λ code.function) (mine.clauses 𝓤 H A at-mem run)
+  step-walks C Λ fm known =
+      walked 𝓤 H A mine.ended stayed (mine.clauses 𝓤 H A at-mem run) (WpFn 𝓤 H C Λ code.function)
+      (λ κs. (ptr-vals, (slice-vals, (slice-vals, (slice-vals, (ptr-vals, tt))))))
+      (λ κs. (
+        mut-tells (named 0) (κs .0) T.the-row,
+        (
+          shr-slice-tells (named 1) (κs .1 .0) u8,
+          (
+            shr-slice-tells (named 2) (κs .1 .1 .0) u8,
+            (mut-slice-tells (named 3) (κs .1 .1 .1 .0) u8, (mut-tells (named 4) (κs .1 .1 .1 .1 .0) u32, tt)),
+          ),
+        ),
+      ))
       (λ κs qs bounds a g are. via 𝓤 _ (fst∗ 𝓤 _ (emp 𝓤))
-      (walk 𝓤 H A W at-mem run (κs .0) (κs .1 .0) (κs .1 .1 .0) (κs .1 .1 .1 .0) (κs .1 .1 .1 .1 .0) (qs .0) (qs .1 .0) (qs .1 .1 .0) (qs .1 .1 .1 .0) (qs .1 .1 .1 .1 .0)
-      (a .0 .ptr .0) (a .0 .ptr .1) (a .0 .name) (a .0 .now) (a .1 .0) (a .1 .1 .0) (a .1 .1 .1 .0) (a .1 .1 .1 .1 .0 .ptr .0) (a .1 .1 .1 .1 .0 .ptr .1) (a .1 .1 .1 .1 .0 .name) (a .1 .1 .1 .1 .0 .now)
+      (walk 𝓤 H A W at-mem run (κs .0) (κs .1 .0) (κs .1 .1 .0) (κs .1 .1 .1 .0) (κs .1 .1 .1 .1 .0)
+      (qs .0) (qs .1 .0) (qs .1 .1 .0) (qs .1 .1 .1 .0) (qs .1 .1 .1 .1 .0)
+      (a .0 .ptr .0) (a .0 .ptr .1) (a .0 .name) (a .0 .now) (a .1 .0) (a .1 .1 .0) (a .1 .1 .1 .0)
+      (a .1 .1 .1 .1 .0 .ptr .0) (a .1 .1 .1 .1 .0 .ptr .1) (a .1 .1 .1 .1 .0 .name) (a .1 .1 .1 .1 .0 .now)
       (are .1 .0 .0 .1) (are .1 .1 .0 .0 .1) (are .1 .1 .1 .0 .0 .1) C Λ fm known))
 
   all-go : AllGo 𝓤 H A W 5 (mine.signature .params) (mine.ended .kept) stayed
@@ -238,7 +291,8 @@ module _ {M : Type 1} (𝓤 : URA M) (H : Heap 𝓤) (A : Atoms 𝓤) (W : Given
     ),
   )
 
-step-meets : {M : Type 1} (𝓤 : URA M) (H : Heap 𝓤) (A : Atoms 𝓤) → Given 𝓤 H A → (at-mem : Memory → SProp 𝓤) (run : Routine → Fun 𝓤) (𝓣 : Tables 𝓤 H) → Triple 𝓤 (𝓣 .C #answers·step) (Step 𝓤 H A at-mem run)
+step-meets : {M : Type 1} (𝓤 : URA M) (H : Heap 𝓤) (A : Atoms 𝓤) → Given 𝓤 H A → (at-mem : Memory → SProp 𝓤) (run : Routine → Fun 𝓤)
+    (𝓣 : Tables 𝓤 H) → Triple 𝓤 (𝓣 .C #answers·step) (Step 𝓤 H A at-mem run)
     → Meets 𝓤 H A mine.signature (WpFn 𝓤 H (𝓣 .C) (𝓣 .Λ) code.function) (mine.spec 𝓤 H A at-mem run)
 step-meets 𝓤 H A W at-mem run 𝓣 known =
     walk-meets 𝓤 H A mine.ended stayed W (all-go 𝓤 H A W at-mem run) (mine.clauses 𝓤 H A at-mem run)

@@ -26,7 +26,8 @@ returns c =
     let p = c .before .before in
     let d = p .before .before .before .before in
     let s = d .before .before .before in
-    (laid-then (d .number .ensures) (p .put .ensures), omega (arith, p .put .ensures .place, d .number .ensures .place, length-word (s .args .n) (s .fits .n .fits)))
+    let l = length-word (s .args .n) (s .fits .n .fits) in
+    (laid-then (d .number .ensures) (p .put .ensures), omega (arith, p .put .ensures .place, d .number .ensures .place, l))
 
 pub field-spec : {M : Type 1} → statement M
 field-spec =

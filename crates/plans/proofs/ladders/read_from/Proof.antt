@@ -29,11 +29,13 @@ returns-2 c =
     let fi = c .before .before in
     let a = fi .before .before .before .before .before .args in
     let s : List ℕ = a .store .now in
-    sym (read-none (slots s) (slot s) (a .sheet) (fi .before .if1 .left) (a .old .now) (a .new .now) (a .room) (sym (fi .find .ensures) ∙ c .if2 .taken ∙ c .before .count .ensures))
+    sym
+    (read-none (slots s) (slot s) (a .sheet) (fi .before .if1 .left) (a .old .now) (a .new .now) (a .room)
+    (sym (fi .find .ensures) ∙ c .if2 .taken ∙ c .before .count .ensures))
 
 -- past that test a slot was found
 there : (c : tie.Else2)
-    → find (c .before .before .before .before .before .before .before .args .store .now) (c .before .before .before .before .before .before .before .args .sheet) < slots (c .before .before .before .before .before .before .before .args .store .now)
+    → let a = c .before .before .before .before .before .before .before .args in find (a .store .now) (a .sheet) < slots (a .store .now)
 there c =
     let a = c .before .before .before .before .before .before .before .args in
     let s : List ℕ = a .store .now in

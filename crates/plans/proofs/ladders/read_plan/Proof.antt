@@ -28,7 +28,8 @@ returns c =
     let st = x .before .before in
     let a = st .before .before .before .before .args in
     let s : List ℕ = a .store .now in
-    sym (opened-refused (a .old .now) (a .new .now) s (readFrom (slots s) (slot s) (a .old .now) (a .new .now) (a .sheet) (a .room)) 0 (x .x .given .0 .0) (sym (st .step-plan .ensures) ∙ x .x .given .1))
+    let f = readFrom (slots s) (slot s) (a .old .now) (a .new .now) (a .sheet) (a .room) in
+    sym (opened-refused (a .old .now) (a .new .now) s f 0 (x .x .given .0 .0) (sym (st .step-plan .ensures) ∙ x .x .given .1))
 
 returns-2 : tie.Need-returns-2
 returns-2 c =
@@ -36,8 +37,9 @@ returns-2 c =
     let st = t .before .before in
     let a = st .before .before .before .before .args in
     let s : List ℕ = a .store .now in
+    let f = readFrom (slots s) (slot s) (a .old .now) (a .new .now) (a .sheet) (a .room) in
     c .read-from .ensures
-    ∙ sym (opened-through (a .old .now) (a .new .now) s (readFrom (slots s) (slot s) (a .old .now) (a .new .now) (a .sheet) (a .room)) 0 (t .enum-told .given .0 .0) (sym (st .step-plan .ensures) ∙ t .enum-told .given .1))
+    ∙ sym (opened-through (a .old .now) (a .new .now) s f 0 (t .enum-told .given .0 .0) (sym (st .step-plan .ensures) ∙ t .enum-told .given .1))
 
 pub read-plan-spec : {M : Type 1} → statement M
 read-plan-spec =

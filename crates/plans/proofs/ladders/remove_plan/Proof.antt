@@ -46,7 +46,7 @@ returns-3 c =
 
 -- past that test a slot was found
 there : (c : tie.Else3)
-    → find (c .before .before .before .before .before .before .before .args .store .now) (c .before .before .before .before .before .before .before .args .sheet) < slots (c .before .before .before .before .before .before .before .args .store .now)
+    → let a = c .before .before .before .before .before .before .before .args in find (a .store .now) (a .sheet) < slots (a .store .now)
 there c =
     let a = c .before .before .before .before .before .before .before .args in
     let s : List ℕ = a .store .now in

@@ -44,7 +44,7 @@ returns-3 c =
 
 -- past that test a slot was found
 there : (c : tie.Else3)
-    → find (c .before .before .before .before .before .before .before .args .store .now) (c .before .before .before .before .before .before .before .args .sheet) < slots (c .before .before .before .before .before .before .before .args .store .now)
+    → let a = c .before .before .before .before .before .before .before .args in find (a .store .now) (a .sheet) < slots (a .store .now)
 there c =
     let a = c .before .before .before .before .before .before .before .args in
     let s : List ℕ = a .store .now in
@@ -60,9 +60,10 @@ returns-4 c =
     let t2 = fi .before in
     let a = t2 .before .before .before .before .args in
     let s : List ℕ = a .store .now in
+    let l = sym (t2 .before .bad-length .ensures) ∙ t2 .if2 .left in
     c .revise-at-plan .ensures
     ∙ ap (λ (j : ℕ). reviseAtPlan (slot s j) (a .seen) j) (fi .find .ensures)
-    ∙ sym (revise-found (slots s) (slot s) (a .sheet) (t2 .before .before .if1 .left) (a .l) (sym (t2 .before .bad-length .ensures) ∙ t2 .if2 .left) (a .seen) (there t))
+    ∙ sym (revise-found (slots s) (slot s) (a .sheet) (t2 .before .before .if1 .left) (a .l) l (a .seen) (there t))
 
 pub revise-from-spec : {M : Type 1} → statement M
 revise-from-spec =

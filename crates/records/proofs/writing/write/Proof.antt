@@ -51,8 +51,8 @@ returns c =
     let a = p .args in
     let h : List ℕ = le .lead .result in
     cl .clear .ensures
-    ∙ writing (a .r .now) h (a .text .now) (st .put .last .0) (cp .copy .last .0) (p .pre .0) (ap length (le .lead .ensures) ∙ length-lead (a .n) (a .v) (a .m) _)
-    (p .pre .1) (st .put .ensures) (cp .copy .ensures)
+    ∙ writing (a .r .now) h (a .text .now) (st .put .last .0) (cp .copy .last .0) (p .pre .0)
+    (ap length (le .lead .ensures) ∙ length-lead (a .n) (a .v) (a .m) _) (p .pre .1) (st .put .ensures) (cp .copy .ensures)
     ∙ ap (λ (x : List ℕ). x ++ (a .text .now ++ replicate (textMost - length (a .text .now)) 0)) (le .lead .ensures)
 
 pub write-spec : {M : Type 1} → statement M

@@ -31,7 +31,8 @@ returns c =
     let a = p .args in
     let t : List ℕ = a .text .now in
     let r1 : List ℕ = recordOf (a .n) (a .v) 2 t in
-    let e : se .seal .last .0 ≡ sealed (a .w .now) r1 (length t) = se .seal .ensures ∙ ap (λ (r : List ℕ). sealed (a .w .now) r (length t)) (wr .write .ensures) in
+    let e : se .seal .last .0 ≡ sealed (a .w .now) r1 (length t) =
+    se .seal .ensures ∙ ap (λ (r : List ℕ). sealed (a .w .now) r (length t)) (wr .write .ensures) in
     let l : length (sealed (a .w .now) r1 (length t)) ≡ recordSize = sym (ap length e) ∙ se .seal .kept .0 ∙ wr .write .kept .0 ∙ p .pre .0 in
     e ∙ sheet-sealed (a .w .now) (a .n) (a .v) t (p .pre .1) l
 

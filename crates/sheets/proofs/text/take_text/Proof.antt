@@ -33,7 +33,8 @@ copy-requires c κs =
     let p = tl .before .before .before .before .before in
     let r : List ℕ = p .args .r .now in
     let l : ℕ = tl .text-length .result in
-    let n : length (take (16 + l - 16) (drop 16 r)) ≡ 16 + l - 16 = length-take-le (16 + l - 16) (drop 16 r) (omega (arith, length-drop 16 r, tl .text-length .ensures, p .pre)) in
+    let n : length (take (16 + l - 16) (drop 16 r)) ≡ 16 + l - 16 =
+    length-take-le (16 + l - 16) (drop 16 r) (omega (arith, length-drop 16 r, tl .text-length .ensures, p .pre)) in
     omega (arith, tl .text-length .ensures, p .pre)
 
 -- the text lies within the record
@@ -41,7 +42,9 @@ within : (c : tie.Start) → 16 + len (c .args .r .now) ≤ length (c .args .r .
 within c = omega (arith, c .pre)
 
 -- the stored text, copied
-put-there : (c : tie.After-copy) → c .copy .last .0 ≡ stored (c .before .before .before .before .before .before .before .before .args .r .now) ++ drop (len (c .before .before .before .before .before .before .before .before .args .r .now)) (c .before .before .before .before .before .before .before .before .args .out .now)
+put-there : (c : tie.After-copy)
+    → let a = c .before .before .before .before .before .before .before .before .args in
+    c .copy .last .0 ≡ stored (a .r .now) ++ drop (len (a .r .now)) (a .out .now)
 put-there c =
     let tl = c .before .before .before in
     let p = tl .before .before .before .before .before in

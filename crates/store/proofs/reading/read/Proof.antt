@@ -2,6 +2,7 @@
 -- Assumes nothing.
 use mathlib.Core.Path.{_≡_, sym, ap, _∙_}
 use Rattle.plans.specs.declared.Plan.the-variants.{Refuse, At}
+use Prim.Native.Nat.{ℕ}
 use lib.ListN.{length}
 use Rattle.plans.specs.Plans.{readPlan}
 use Rattle.records.proofs.FieldLaws.{sound-len}
@@ -26,8 +27,11 @@ read-slot-requires c κs =
     let kk = c .before .before in
     let pl = kk .before .before in
     let a = pl .before .before .before .before .before .args in
-    let r = read-says (a .old .now) (a .new .now) (a .store .now) (a .sheet) (length (a .text .now)) (kk .k .given .0 .0) (sym (pl .read-plan .ensures) ∙ kk .k .given .1) in
-    (r .at .within, sound-len (slot (a .store .now) (kk .k .given .0 .0)) (r .whole) (used (r .at)) .1, r .room)
+    let k : ℕ = kk .k .given .0 .0 in
+    let e : readPlan (a .old .now) (a .new .now) (a .store .now) (a .sheet) (length (a .text .now)) ≡ At k =
+    sym (pl .read-plan .ensures) ∙ kk .k .given .1 in
+    let r = read-says (a .old .now) (a .new .now) (a .store .now) (a .sheet) (length (a .text .now)) k e in
+    (r .at .within, sound-len (slot (a .store .now) k) (r .whole) (used (r .at)) .1, r .room)
 
 returns : tie.Need-returns
 returns c =

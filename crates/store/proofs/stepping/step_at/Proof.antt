@@ -27,7 +27,8 @@ returns : tie.Need-returns
 returns c =
     let pl = c .before .before .before in
     let a = pl .before .before .before .before .before .args in
-    let e : stepPlan (a .old .now) (a .new .now) (a .store .now) (a .place) ≡ Refuse (c .before .x .given .0 .0) = sym (pl .step-plan .ensures) ∙ c .before .x .given .1 in
+    let e : stepPlan (a .old .now) (a .new .now) (a .store .now) (a .place) ≡ Refuse (c .before .x .given .0 .0) =
+    sym (pl .step-plan .ensures) ∙ c .before .x .given .1 in
     (sym (ap (stepAnswer (a .store .now)) e), sym (ap (stepStore (a .old .now) (a .new .now) (a .store .now)) e))
 
 same-length-2 : tie.Need-same-length-2

@@ -29,7 +29,7 @@ returns c =
     stepped-as (a .old .now) (a .new .now) (a .store .now) (a .k) Done (at-end (a .store .now) (a .k) h)
 
 -- past the first test the place is a slot
-within : (c : tie.Else1) → c .before .before .before .before .before .before .args .k < slots (c .before .before .before .before .before .before .args .store .now)
+within : (c : tie.Else1) → let a = c .before .before .before .before .before .before .args in a .k < slots (a .store .now)
 within c = omega (arith, c .before .count .ensures, c .if1 .left)
 
 add-next : tie.Need-add-next
@@ -54,7 +54,8 @@ returns-2 c =
     stepped-as (a .old .now) (a .new .now) s (a .k) Free (inside s (a .k) (within t1) ∙ is-free (slot s (a .k)) n)
 
 -- past the second the slot is used
-taken-slot : (c : tie.Else2) → num (slot (c .before .before .before .before .before .before .before .before .before .before .args .store .now) (c .before .before .before .before .before .before .before .before .before .before .args .k)) ≡ 0 → ⊥
+taken-slot : (c : tie.Else2)
+    → let a = c .before .before .before .before .before .before .before .before .before .before .args in num (slot (a .store .now) (a .k)) ≡ 0 → ⊥
 taken-slot c q = let nu = c .before in c .if2 .left (nu .number .ensures ∙ ap num (nu .before .record-at .ensures .0) ∙ q)
 
 is-sound-requires : tie.Need-is-sound-requires
@@ -76,7 +77,9 @@ returns-3 c =
     stepped-as (a .old .now) (a .new .now) s (a .k) Damaged (inside s (a .k) (within t1) ∙ is-damaged r (taken-slot t2) e)
 
 -- past the third it is sound
-sound-slot : (c : tie.Else3) → sound (slot (c .before .before .before .before .before .before .before .before .before .before .before .before .args .store .now) (c .before .before .before .before .before .before .before .before .before .before .before .before .args .k)) ≡ true
+sound-slot : (c : tie.Else3)
+    → let a = c .before .before .before .before .before .before .before .before .before .before .before .before .args in
+    sound (slot (a .store .now) (a .k)) ≡ true
 sound-slot c =
     let so = c .before in
     sym (so .is-sound .ensures ∙ ap sound (so .before .before .before .record-at .ensures .0)) ∙ not-false (so .is-sound .result) (c .if3 .left)

@@ -23,7 +23,9 @@ put-sheet-at-requires c κs =
     let kk = c .before .before in
     let pl = kk .before .before in
     let a = pl .before .before .before .before .before .before .args in
-    let r = add-says (a .old .now) (a .new .now) (a .store .now) (a .sheet) (a .text .now) (kk .k .given .0 .0) (sym (pl .add-plan .ensures) ∙ kk .k .given .1) in
+    let e : addPlan (a .old .now) (a .new .now) (a .store .now) (a .sheet) (a .text .now) ≡ At (kk .k .given .0 .0) =
+    sym (pl .add-plan .ensures) ∙ kk .k .given .1 in
+    let r = add-says (a .old .now) (a .new .now) (a .store .now) (a .sheet) (a .text .now) (kk .k .given .0 .0) e in
     (r .within, r .fits)
 
 same-length : tie.Need-same-length

@@ -31,13 +31,15 @@ enum-known-k c = search needs
 
 -- the plan ends at a slot that has the revision seen
 planned : (c : tie.After-k)
-    → (c .k .given .0 .0 < slots (c .before .before .before .before .before .before .before .before .args .store .now))
-    × (length (c .before .before .before .before .before .before .before .before .args .text .now) ≤ textMost)
-    × (c .before .before .before .before .before .before .before .before .args .seen ≡ rev (slot (c .before .before .before .before .before .before .before .before .args .store .now) (c .k .given .0 .0)))
+    → let a = c .before .before .before .before .before .before .before .before .args in let k : ℕ = c .k .given .0 .0 in
+    (k < slots (a .store .now)) × (length (a .text .now) ≤ textMost) × (a .seen ≡ rev (slot (a .store .now) k))
 planned c =
     let pl = c .before .before in
     let a = pl .before .before .before .before .before .before .args in
-    let r = revise-says (a .old .now) (a .new .now) (a .store .now) (a .sheet) (a .seen) (a .text .now) (c .k .given .0 .0) (sym (pl .revise-plan .ensures) ∙ c .k .given .1) in
+    let k : ℕ = c .k .given .0 .0 in
+    let e : revisePlan (a .old .now) (a .new .now) (a .store .now) (a .sheet) (a .seen) (a .text .now) ≡ At k =
+    sym (pl .revise-plan .ensures) ∙ c .k .given .1 in
+    let r = revise-says (a .old .now) (a .new .now) (a .store .now) (a .sheet) (a .seen) (a .text .now) k e in
     (r .at .within, r .fits, r .seen)
 
 add-v : tie.Need-add-v
