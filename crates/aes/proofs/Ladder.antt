@@ -10,11 +10,11 @@ use lib.Dec.{eqb}
 use lib.ListN.{length, drop-of-length-le}
 use lib.Seq.{take-all}
 use Rattle.block.specs.Blocks.{blockAt, withBlock}
+use Rattle.numbers.specs.declared.Refusal.the-variants.{KeyLength, MessageLength}
+use Rattle.numbers.specs.declared.Answer.the-variants.{Done, Refused}
 use Rattle.schedule.specs.Size.{keySize, Nr}
 use Rattle.schedule.specs.KeyExpansion.{roundKeys}
 use Rattle.cipher.specs.Cipher.{crypted}
-use Rattle.numbers.specs.declared.Refusal.the-variants.{KeyLength, MessageLength}
-use Rattle.numbers.specs.declared.Answer.the-variants.{Done, Refused}
 use Rattle.aes.specs.Aes.{aes}
 use Rattle.aes.specs.Calls.{number, afterwards, Called}
 use Rattle.aes.specs.Promise.{crypted-aes}

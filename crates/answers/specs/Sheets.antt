@@ -7,10 +7,10 @@ use mathlib.Core.List.{List}
 use Prim.Native.Nat.{ℕ}
 use lib.ListN.{length}
 use Rattle.numbers.specs.Numbers.{paper}
-use Rattle.plans.specs.Plans.{readPlan, addPlan, revisePlan, removePlan, stepPlan}
 use Rattle.checking.specs.declared.Checked.{Checked}
 use Rattle.checking.specs.declared.Checked.the-variants as checked
 use Rattle.checking.specs.Check.{checkAnswer}
+use Rattle.plans.specs.Plans.{readPlan, addPlan, revisePlan, removePlan, stepPlan}
 use Rattle.store.specs.declared.Text.{Text}
 use Rattle.store.specs.declared.Text.the-variants as text
 use Rattle.store.specs.declared.Stored.{Stored}

@@ -1,7 +1,7 @@
 // What the store's calls answer, as numbers by value: 01's number, and for each pointer of the call what is to stand behind it. The calls for C
 // then only write them there.
 ghost use mathlib.Core.Path.{_≡_};
-ghost use Rattle.answers.specs.Sheets.{CheckedForC, ReadForC, AddForC, ReviseForC, RemoveForC, outcomeNumber, StepForC};
+ghost use Rattle.answers.specs.Sheets.{CheckedForC, ReadForC, AddForC, ReviseForC, RemoveForC, outcomeNumber, StepForC, storedNumber, revisionOr};
 use checking::Checked;
 use numbers::number;
 use store::Outcome;
@@ -125,11 +125,11 @@ pub fn read(
     }
 }
 
-pub fn add(old: &[u8], new: &[u8], store: &mut [u8], sheet: u32, text: &[u8], v: u32) -> StoreValues
-    ensures { λ r. ⌜ AddForC (now (old .entry)) (now (new .entry)) (now (store .entry)) sheet (now (text .entry)) v (r .number) (now (store .exit))
-        (r .revision) ⌝ }
+// What add and revise answer; v stays behind the pointer if the call was refused.
+fn stored(a: Stored, v: u32) -> StoreValues
+    ensures { λ r. ⌜ (r .number ≡ storedNumber a) × (r .revision ≡ revisionOr v a) ⌝ }
 {
-    match store::add(old, new, store, sheet, text) {
+    match a {
         Stored::Refused(x) => StoreValues {
             number: number(x),
             revision: v,
@@ -139,6 +139,13 @@ pub fn add(old: &[u8], new: &[u8], store: &mut [u8], sheet: u32, text: &[u8], v:
             revision,
         },
     }
+}
+
+pub fn add(old: &[u8], new: &[u8], store: &mut [u8], sheet: u32, text: &[u8], v: u32) -> StoreValues
+    ensures { λ r. ⌜ AddForC (now (old .entry)) (now (new .entry)) (now (store .entry)) sheet (now (text .entry)) v (r .number) (now (store .exit))
+        (r .revision) ⌝ }
+{
+    stored(store::add(old, new, store, sheet, text), v)
 }
 
 pub fn revise(
@@ -153,16 +160,7 @@ pub fn revise(
     ensures { λ r. ⌜ ReviseForC (now (old .entry)) (now (new .entry)) (now (store .entry)) sheet seen (now (text .entry)) v (r .number)
         (now (store .exit)) (r .revision) ⌝ }
 {
-    match store::revise(old, new, store, sheet, seen, text) {
-        Stored::Refused(x) => StoreValues {
-            number: number(x),
-            revision: v,
-        },
-        Stored::Revision(revision) => StoreValues {
-            number: 0,
-            revision,
-        },
-    }
+    stored(store::revise(old, new, store, sheet, seen, text), v)
 }
 
 pub fn remove(store: &mut [u8], sheet: u32) -> u32

@@ -11,10 +11,10 @@ use lib.Dec.{eqb, ltb}
 use lib.ListN.{length}
 use Rattle.block.specs.Bytes.{Bytes}
 use Rattle.block.proofs.BoolLaws.{clash}
+use Rattle.numbers.specs.declared.Refusal.the-variants.{StoreLength}
 use Rattle.records.specs.Record.{recordSize, num, sound}
 use Rattle.slots.specs.Slots.{slots, slot, put, lowest, find, badSize}
 use Rattle.slots.proofs.FindLaws.{find-has, find-lowest, lowest-has, lowest-below}
-use Rattle.numbers.specs.declared.Refusal.the-variants.{StoreLength}
 use Rattle.slots.proofs.PutLaws.{slot-other, slots-put, slot-put}
 use Rattle.checking.specs.declared.Checked.{Checked}
 use Rattle.checking.specs.declared.Checked.the-variants.{Counts, Fault, Refused}

@@ -14,13 +14,13 @@ use Rattle.block.specs.Bytes.{Bytes}
 use Rattle.block.proofs.BytesLaws.{bytes-zeros}
 use Rattle.block.proofs.RowLaws.{bytes-row}
 use Rattle.records.specs.Record.{recordSize, textMost, greatestRevision, num, rev, mark, len, sound}
-use Rattle.sheets.specs.Text.{textOf, sheet}
 use Rattle.records.proofs.FieldLaws.{sound-len, sound-fields, num-bound, rev-bound}
-use Rattle.sheets.proofs.SheetLaws.{num-sheet, rev-sheet, length-sheet, sound-sheet, bytes-sheet}
-use Rattle.sheets.proofs.TextLaws.{length-textOf, bytes-textOf}
 use Rattle.slots.specs.Slots.{slots, slot, emptied}
 use Rattle.slots.proofs.SlotLaws.{length-slot}
 use Rattle.slots.proofs.PutLaws.{sound-emptied, length-emptied}
+use Rattle.sheets.specs.Text.{textOf, sheet}
+use Rattle.sheets.proofs.SheetLaws.{num-sheet, rev-sheet, length-sheet, sound-sheet, bytes-sheet}
+use Rattle.sheets.proofs.TextLaws.{length-textOf, bytes-textOf}
 use Rattle.plans.specs.declared.Plan.{Plan}
 use Rattle.plans.specs.declared.Plan.the-variants.{Refuse, At}
 use Rattle.plans.specs.Plans.{badKeys, addPlan, revisePlan, removePlan}

@@ -9,13 +9,13 @@ use borrow.Author.Tests.{eq-eqb, ne-eqb}
 use lib.Dec.{eqb}
 use Rattle.block.specs.Bytes.{Bytes}
 use Rattle.records.specs.Record.{num, rev, mark}
-use Rattle.sheets.specs.Text.{textOf}
-use Rattle.sheets.proofs.SheetLaws.{mark-sheet}
 use Rattle.slots.specs.Slots.{slots, slot, put}
 use Rattle.slots.proofs.PutLaws.{slots-put, slot-put}
+use Rattle.checking.specs.Check.{marked}
+use Rattle.sheets.specs.Text.{textOf}
+use Rattle.sheets.proofs.SheetLaws.{mark-sheet}
 use Rattle.plans.specs.declared.Plan.{Plan}
 use Rattle.plans.specs.Plans.{badKeys, stepPlan}
-use Rattle.checking.specs.Check.{marked}
 use Rattle.store.specs.declared.Outcome.the-variants.{Converted}
 use Rattle.store.specs.Calls.{outcomeAt, movedFrom, convertedAt, stepAnswer, placeAfter, stepStore}
 use Rattle.store.proofs.StepLaws.{inside, is-converted}

@@ -9,10 +9,10 @@ use borrow.Author.Tests.{eq-eqb, ne-eqb}
 use lib.ListN.{length}
 use Rattle.block.specs.Bytes.{Bytes}
 use Rattle.records.specs.Record.{recordSize, textMost, greatestRevision, num, rev, sound}
+use Rattle.slots.specs.Slots.{slots, put, emptied}
+use Rattle.slots.proofs.PutLaws.{num-emptied, size-put, bytes-put, slots-put, every}
 use Rattle.sheets.specs.Text.{textOf, sheet}
 use Rattle.sheets.proofs.SheetLaws.{num-sheet, rev-sheet, sheet-text}
-use Rattle.slots.specs.Slots.{slots, slot, put, emptied}
-use Rattle.slots.proofs.PutLaws.{num-emptied, size-put, bytes-put, slots-put, every}
 use Rattle.claims.specs.Plain.{nothing, holding}
 use Rattle.claims.specs.View.{placeOf}
 use Rattle.claims.proofs.Simulation.{SoundStore}

@@ -10,15 +10,15 @@ use lib.Dec.{eqb, leb}
 use lib.ListN.{length}
 use Rattle.block.specs.Bytes.{Bytes}
 use Rattle.records.specs.Record.{recordSize, num, rev, mark, sound}
-use Rattle.sheets.specs.Text.{textOf, sheet}
-use Rattle.sheets.proofs.SheetLaws.{mark-sheet, length-sheet}
 use Rattle.slots.specs.Slots.{slots, slot, put, emptied, badSize}
 use Rattle.slots.proofs.PutLaws.{length-emptied, slots-put, num-emptied, every}
+use Rattle.checking.specs.Check.{marked}
+use Rattle.sheets.specs.Text.{textOf, sheet}
+use Rattle.sheets.proofs.SheetLaws.{mark-sheet, length-sheet}
 use Rattle.plans.specs.declared.Plan.{Plan}
 use Rattle.plans.specs.declared.Plan.the-variants.{Refuse, At}
 use Rattle.plans.specs.Plans.{badKeys, addPlan, revisePlan, removePlan, stepPlan}
 use Rattle.plans.proofs.PlanLaws.{opened-no, remove-says, add-says, revise-says}
-use Rattle.checking.specs.Check.{marked}
 use Rattle.store.specs.declared.Outcome.{Outcome}
 use Rattle.store.specs.declared.Outcome.the-variants.{Done, Free, Damaged, Already, Converted}
 use Rattle.store.specs.Calls.{addStore, reviseStore, removeStore, recordOutcome, outcomeAt, movedFrom, convertedAt, stepAnswer, placeAfter, stepStore}

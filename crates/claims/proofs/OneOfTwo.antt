@@ -12,12 +12,12 @@ use lib.ListN.{length}
 use Rattle.block.specs.Bytes.{Bytes}
 use Rattle.block.proofs.RowLaws.{bytes-row}
 use Rattle.records.specs.Record.{recordSize, greatestRevision, num, rev}
-use Rattle.sheets.specs.Text.{sheet}
 use Rattle.records.proofs.FieldLaws.{rev-bound}
-use Rattle.sheets.proofs.SheetLaws.{num-sheet, rev-sheet, length-sheet}
 use Rattle.slots.specs.Slots.{slots, slot, put, emptied, find}
 use Rattle.slots.proofs.FindLaws.{find-has}
 use Rattle.slots.proofs.PutLaws.{slot-other, num-emptied, length-emptied, slots-put, slot-put, find-put}
+use Rattle.sheets.specs.Text.{sheet}
+use Rattle.sheets.proofs.SheetLaws.{num-sheet, rev-sheet, length-sheet}
 use Rattle.plans.specs.declared.Plan.{Plan}
 use Rattle.plans.specs.declared.Plan.the-variants.{Refuse, At}
 use Rattle.plans.specs.Plans.{badKeys, addPlan, revisePlan, removePlan, stepPlan}

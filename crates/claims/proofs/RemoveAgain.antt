@@ -9,13 +9,13 @@ use native.Mathlib.Omega.{arith}
 use borrow.Author.Tests.{eqb-true, eqb-false}
 use lib.Dec.{eqb}
 use Rattle.block.specs.Bytes.{Bytes}
+use Rattle.numbers.specs.declared.Refusal.the-variants.{NoSheet}
 use Rattle.records.specs.Record.{num}
 use Rattle.slots.specs.Slots.{slots, slot, put, emptied, find}
 use Rattle.slots.proofs.FindLaws.{find-le, find-has}
+use Rattle.slots.proofs.PutLaws.{slot-other, num-emptied, length-emptied, slots-put, slot-put, size-put}
 use Rattle.plans.specs.declared.Plan.{Plan}
 use Rattle.plans.specs.declared.Plan.the-variants.{Refuse, At}
-use Rattle.numbers.specs.declared.Refusal.the-variants.{NoSheet}
-use Rattle.slots.proofs.PutLaws.{slot-other, num-emptied, length-emptied, slots-put, slot-put, size-put}
 use Rattle.plans.specs.Plans.{removePlan}
 use Rattle.plans.proofs.PlanLaws.{remove-says, remove-absent}
 use Rattle.store.specs.declared.Removed.the-variants.{Done, Refused}

@@ -11,15 +11,14 @@ use lib.Dec.{eqb, ltb}
 use lib.ListN.{length}
 use Rattle.block.specs.Bytes.{Bytes}
 use Rattle.block.proofs.RowLaws.{bytes-row}
+use Rattle.numbers.specs.declared.Refusal.the-variants.{SheetZero, TextLength, NoSheet, OtherRevision, LastRevision, NoFreeSlot, SheetPresent, BufferLength}
 use Rattle.records.specs.Record.{recordSize, greatestRevision, num, rev, len, sound}
-use Rattle.sheets.specs.Text.{textOf}
 use Rattle.records.proofs.FieldLaws.{sound-len}
-use Rattle.sheets.proofs.TextLaws.{length-textOf}
 use Rattle.slots.specs.Slots.{slots, slot, find, badSize}
 use Rattle.slots.proofs.FindLaws.{find-has}
 use Rattle.slots.proofs.SlotLaws.{length-slot}
-use Rattle.numbers.specs.declared.Refusal.the-variants.{SheetZero, TextLength, NoSheet, OtherRevision, LastRevision, NoFreeSlot, SheetPresent, BufferLength}
-use Rattle.plans.specs.declared.Plan.{Plan}
+use Rattle.sheets.specs.Text.{textOf}
+use Rattle.sheets.proofs.TextLaws.{length-textOf}
 use Rattle.plans.specs.declared.Plan.the-variants.{At}
 use Rattle.plans.specs.Plans.{guard, badKeys, badText, absent, readFrom, addFrom, reviseFrom, readPlan, addPlan, revisePlan, removePlan}
 use Rattle.plans.proofs.PlanLaws.{past, there, opened-no, remove-sized, read-sound, revise-sound, add-rungs, remove-rungs}

@@ -7,11 +7,11 @@ use Prim.Native.Nat.{ℕ, _+_, _<_}
 use native.Mathlib.Omega.{arith}
 use Rattle.block.specs.Bytes.{Bytes}
 use Rattle.records.specs.Record.{num, rev}
-use Rattle.sheets.specs.Text.{sheet}
-use Rattle.sheets.proofs.SheetLaws.{num-sheet, length-sheet}
 use Rattle.slots.specs.Slots.{slots, slot, emptied}
 use Rattle.slots.proofs.FindLaws.{find-lowest}
 use Rattle.slots.proofs.PutLaws.{num-emptied, length-emptied}
+use Rattle.sheets.specs.Text.{sheet}
+use Rattle.sheets.proofs.SheetLaws.{num-sheet, length-sheet}
 use Rattle.plans.specs.declared.Plan.{Plan}
 use Rattle.plans.specs.declared.Plan.the-variants.{Refuse, At}
 use Rattle.plans.specs.Plans.{badKeys, addPlan, revisePlan, removePlan, stepPlan}

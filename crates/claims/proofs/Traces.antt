@@ -8,8 +8,8 @@ use Prim.Native.Nat.{ℕ, _+_}
 use lib.ListN.{length, drop, length-set}
 use Rattle.block.specs.Bytes.{Bytes}
 use Rattle.records.specs.Record.{num, rev, len}
-use Rattle.sheets.specs.Text.{textOf}
 use Rattle.slots.specs.Slots.{slots, slot}
+use Rattle.sheets.specs.Text.{textOf}
 use Rattle.plans.specs.declared.Plan.{Plan}
 use Rattle.plans.specs.declared.Plan.the-variants.{Refuse, At}
 use Rattle.plans.specs.Plans.{badKeys, readPlan, addPlan, revisePlan, removePlan, stepPlan}

@@ -4,17 +4,17 @@
 use mathlib.Core.Path.{_≡_, refl, sym, ap, ap₂, _∙_}
 use mathlib.Core.Bool.{Bool, true, false, cond}
 use mathlib.Core.List.{List, _∷_}
-use Prim.Native.Nat.{ℕ, zero, suc, _+_, _*_, _≤_, _<_}
+use Prim.Native.Nat.{ℕ, zero, suc, _+_, _≤_, _<_}
 use native.Mathlib.Nat.{not-suc-le-zero, le-of-suc-le-suc}
 use native.Mathlib.Omega.{arith}
-use borrow.Author.Tests.{eqb-true, ltb-true, ltb-false}
-use lib.Dec.{eqb, ltb}
+use borrow.Author.Tests.{eqb-true}
+use lib.Dec.{eqb}
 use lib.ListN.{length, set}
 use Rattle.records.specs.Record.{recordSize, num, rev}
-use Rattle.sheets.specs.Text.{textOf}
 use Rattle.slots.specs.Slots.{slots, slot, put, lowest, find}
 use Rattle.slots.proofs.FindLaws.{hasNum, scan-same, find-by}
 use Rattle.slots.proofs.PutLaws.{slots-put, slot-put, slot-other}
+use Rattle.sheets.specs.Text.{textOf}
 use Rattle.claims.specs.Plain.{Place, nothing, holding, numberOf, at, findIn}
 use Rattle.claims.specs.View.{placeOf, placesFrom, plain}
 

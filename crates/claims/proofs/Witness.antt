@@ -12,14 +12,14 @@ use lib.Dec.{lit<}
 use lib.ListN.{replicate}
 use Rattle.block.specs.Bytes.{Bytes}
 use Rattle.block.proofs.BytesLaws.{bytes-zeros, bytes-cons}
-use Rattle.records.specs.Record.{textMost, num, rev}
-use Rattle.sheets.specs.Text.{textOf}
-use Rattle.records.proofs.RecordLaws.{rev-record, stored-record}
-use Rattle.sheets.proofs.TextLaws.{text-clear}
-use Rattle.slots.specs.Slots.{slots, slot, scan, badSize}
 use Rattle.numbers.specs.declared.Refusal.the-variants.{OtherRevision}
-use Rattle.plans.specs.Plans.{guard, badLength}
+use Rattle.records.specs.Record.{textMost, num, rev}
+use Rattle.records.proofs.RecordLaws.{rev-record, stored-record}
+use Rattle.slots.specs.Slots.{slots, slot, scan, badSize}
 use Rattle.checking.specs.Check.{checkAnswer}
+use Rattle.sheets.specs.Text.{textOf}
+use Rattle.sheets.proofs.TextLaws.{text-clear}
+use Rattle.plans.specs.Plans.{guard, badLength}
 use Rattle.store.specs.declared.Text.the-variants.{Read}
 use Rattle.store.specs.declared.Stored.the-variants.{Revision, Refused}
 use Rattle.store.specs.declared.Removed.the-variants.{Done}

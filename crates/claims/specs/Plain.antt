@@ -7,9 +7,9 @@ use mathlib.Core.List.{List, [], _++_}
 use Prim.Native.Nat.{ℕ, _+_}
 use lib.Dec.{eqb, ltb}
 use lib.ListN.{length, getD, drop, set}
+use Rattle.numbers.specs.declared.Refusal.the-variants.{SheetZero, TextLength, NoSheet, OtherRevision, LastRevision, NoFreeSlot, SheetPresent, BufferLength}
 use Rattle.records.specs.Record.{greatestRevision}
 use Rattle.slots.specs.Slots.{lowest}
-use Rattle.numbers.specs.declared.Refusal.the-variants.{SheetZero, TextLength, NoSheet, OtherRevision, LastRevision, NoFreeSlot, SheetPresent, BufferLength}
 use Rattle.plans.specs.declared.Plan.{Plan}
 use Rattle.plans.specs.declared.Plan.the-variants.{Refuse, At}
 use Rattle.plans.specs.Plans.{guard, badText}

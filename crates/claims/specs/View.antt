@@ -5,8 +5,8 @@ use mathlib.Core.List.{List, [], _∷_}
 use Prim.Native.Nat.{ℕ, zero, suc}
 use lib.Dec.{eqb}
 use Rattle.records.specs.Record.{num, rev}
-use Rattle.sheets.specs.Text.{textOf}
 use Rattle.slots.specs.Slots.{slots, slot}
+use Rattle.sheets.specs.Text.{textOf}
 use Rattle.claims.specs.Plain.{Place, nothing, holding}
 
 -- what a record holds, with the old key o and the new key w

@@ -8,9 +8,9 @@ use Prim.Native.Nat.{ℕ, _-_, _≤_, _<_}
 use native.Mathlib.Omega.{arith}
 use lib.Dec.{eqb}
 use lib.ListN.{length}
-use Rattle.aes.specs.Aes.{keySize}
 use Rattle.numbers.specs.declared.Refusal.the-variants.{KeyLength, MessageLength, DataLength}
 use Rattle.numbers.specs.declared.Answer.the-variants.{Done, Refused}
+use Rattle.aes.specs.Aes.{keySize}
 use Rattle.eme2.specs.Transform.{keyTaken, number, eme2, afterwards}
 use Rattle.eme2.specs.Calls.{Called}
 use Rattle.eme2.proofs.Bounds.{number-0, number-1, number-2, number-3}

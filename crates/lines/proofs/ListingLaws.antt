@@ -8,11 +8,11 @@ use native.Mathlib.Numerals.{add-one}
 use borrow.Author.Tests.{lt-ltb, le-ltb}
 use lib.Dec.{ltb}
 use lib.ListN.{length}
-use Rattle.records.specs.Record.{num, rev, mark, len}
-use Rattle.slots.specs.Slots.{slots, slot, badSize}
 use Rattle.numbers.specs.declared.Refusal.{Refusal}
 use Rattle.numbers.specs.declared.Refusal.the-variants.{StoreLength}
 use Rattle.numbers.specs.Numbers.{paper}
+use Rattle.records.specs.Record.{num, rev, mark, len}
+use Rattle.slots.specs.Slots.{slots, slot, badSize}
 use Rattle.checking.specs.declared.Checked.{Checked}
 use Rattle.checking.specs.declared.Checked.the-variants.{Fault, Refused}
 use Rattle.checking.specs.Check.{firstFault, counts, checkAnswer}

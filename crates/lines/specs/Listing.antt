@@ -7,9 +7,9 @@ use mathlib.Core.List.{List, [], _∷_, _++_}
 use Prim.Native.Nat.{ℕ, zero, suc, _*_}
 use lib.Dec.{ltb}
 use lib.ListN.{length}
+use Rattle.numbers.specs.Numbers.{paper}
 use Rattle.records.specs.Record.{recordSize, num, rev, mark, len}
 use Rattle.slots.specs.Slots.{slots, slot}
-use Rattle.numbers.specs.Numbers.{paper}
 use Rattle.checking.specs.declared.Checked.{Checked}
 use Rattle.checking.specs.declared.Checked.the-variants.{Counts, Fault, Refused}
 use Rattle.checking.specs.Check.{used, checkAnswer}

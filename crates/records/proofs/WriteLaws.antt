@@ -4,10 +4,10 @@ use mathlib.Core.Path.{_≡_, refl, sym, ap, ap₂, _∙_}
 use mathlib.Core.List.{List, _++_, append-assoc}
 use Prim.Native.Nat.{ℕ, _+_, _-_, _≤_}
 use native.Mathlib.Omega.{arith}
-use lib.ListN.{length, take, drop, replicate, length-append, length-drop, length-replicate}
-use lib.Seq.{take-at, drop-at, drop-drop}
-use Rattle.block.specs.Blocks.{blockAt, withBlock}
-use Rattle.records.specs.Record.{recordSize, textMost, lead, recordOf}
+use lib.ListN.{length, take, drop, replicate, length-append, length-drop}
+use lib.Seq.{take-at}
+use Rattle.block.specs.Blocks.{withBlock}
+use Rattle.records.specs.Record.{recordSize, textMost, lead}
 
 pub length-lead : (n v m l : ℕ) → length (lead n v m l) ≡ 16
 unfolding lead

@@ -12,13 +12,13 @@ use Rattle.slots.specs.Slots.{slots}
 use Rattle.plans.specs.declared.Plan.{Plan}
 use Rattle.store.specs.declared.Stored.the-variants.{Revision, Refused}
 use Rattle.store.specs.Calls.{stepAnswer}
-use Rattle.answers.specs.Sheets.{stepNumber}
 use Rattle.claims.specs.View.{plain}
 use Rattle.claims.specs.Machine.{Event, removing, AllAllowed, Answer, ofRead, ofStored, ofRemoved, ofStep}
 use Rattle.claims.specs.Machine.{State, storeStep, answer, next, answers, final, listAnswers, listFinal}
 use Rattle.claims.specs.Claims.{Key, Passes, NoneLeft, stepsOf, eventAt, answerAt, RemovedAt}
 use Rattle.claims.proofs.Joining.{final-join}
 use Rattle.claims.proofs.Demand3 as list
+use Rattle.answers.specs.Sheets.{stepNumber}
 use Rattle.runs.specs.Calls.{Call, reads, adds, revises, removes, steps, jobSteps, Returned, text, revision, freed, outcome}
 use Rattle.runs.specs.Calls.{callAt, returnedAt, event, events, told, asReturned, readOff, readAll}
 use Rattle.runs.specs.Runs.{Run, Six, Checks, ChecksOut}

@@ -7,8 +7,8 @@ use Prim.Native.Nat.{ℕ}
 use lib.ListN.{length}
 use Rattle.plans.specs.Plans.{readPlan, addPlan, revisePlan, removePlan, stepPlan}
 use Rattle.store.specs.Calls.{readAnswer, readBuffer, addAnswer, reviseAnswer, removeAnswer, stepAnswer}
-use Rattle.answers.specs.Sheets.{readNumber, lengthOr, seenOr, storedNumber, revisionOr, removedNumber, stepNumber, outcomeOr}
 use Rattle.claims.specs.Machine.{Event, State, moved, next, final}
+use Rattle.answers.specs.Sheets.{readNumber, lengthOr, seenOr, storedNumber, revisionOr, removedNumber, stepNumber, outcomeOr}
 use Rattle.runs.specs.Calls.{Call, reads, adds, revises, removes, steps, jobSteps, Returned, text, revision, freed, outcome, event, events}
 use Rattle.runs.specs.Runs.{Joined, by-read, by-add, by-revise, by-remove, by-step, by-job-step, Run, no-call, a-call}
 

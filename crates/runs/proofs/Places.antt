@@ -7,9 +7,9 @@ use Prim.Native.Nat.{ℕ, suc, _+_}
 use native.Mathlib.Omega.{arith}
 use borrow.Author.Tests.{eq-eqb}
 use lib.Dec.{eqb}
-use Rattle.answers.specs.Sheets.{StepForC}
 use Rattle.claims.specs.Machine.{Event, reading, adding, revising, removing, stepping, State}
 use Rattle.claims.specs.Claims.{stepsOf}
+use Rattle.answers.specs.Sheets.{StepForC}
 use Rattle.runs.specs.Calls.{Call, steps, jobSteps, Returned, outcome, event, events}
 use Rattle.runs.specs.Runs.{Joined, by-read, by-add, by-revise, by-remove, by-step, by-job-step, Run, no-call, a-call}
 

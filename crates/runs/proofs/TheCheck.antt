@@ -6,12 +6,12 @@ use mathlib.Core.List.{List}
 use Prim.Native.Nat.{ℕ, zero, suc, _+_, _<_}
 use native.Mathlib.Omega.{arith}
 use lib.Dec.{ltb}
-use Rattle.slots.specs.Slots.{slots, slot, tally, badSize}
 use Rattle.numbers.specs.declared.Refusal.the-variants.{StoreLength}
+use Rattle.slots.specs.Slots.{slots, slot, tally, badSize}
 use Rattle.checking.specs.declared.Checked.the-variants.{Fault, Refused}
 use Rattle.checking.specs.Check.{firstFault, counted, marked, counts, checkAnswer}
-use Rattle.answers.specs.Sheets.{checkNumber, clearOr, oldOr}
 use Rattle.claims.specs.Claims.{Passes, NoneLeft}
+use Rattle.answers.specs.Sheets.{checkNumber, clearOr, oldOr}
 use Rattle.runs.specs.Runs.{Six, Checks, ChecksOut}
 
 pub checks-pass : (s : List ℕ) → ChecksOut s → Passes s

@@ -3,8 +3,8 @@
 use mathlib.Core.List.{List, [], _∷_, map}
 use Prim.Native.Nat.{ℕ}
 use lib.ListN.{getD}
-use Rattle.answers.specs.Sheets.{readNumber, lengthOr, seenOr, storedNumber, revisionOr, removedNumber}
 use Rattle.claims.specs.Machine.{Event, reading, adding, revising, removing, stepping, Answer, ofRead, ofStored, ofRemoved, ofStep}
+use Rattle.answers.specs.Sheets.{readNumber, lengthOr, seenOr, storedNumber, revisionOr, removedNumber}
 
 -- a call with its arguments, and after them what stands behind each pointer before it; a step lends the place of a copy of the job
 pub data Call : Type 0 where

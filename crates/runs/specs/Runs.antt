@@ -3,8 +3,8 @@
 -- Assumes nothing.
 use mathlib.Core.List.{List, [], _∷_}
 use Prim.Native.Nat.{ℕ}
-use Rattle.answers.specs.Sheets.{CheckedForC, ReadForC, AddForC, ReviseForC, RemoveForC, StepForC}
 use Rattle.claims.specs.Machine.{State, moved}
+use Rattle.answers.specs.Sheets.{CheckedForC, ReadForC, AddForC, ReviseForC, RemoveForC, StepForC}
 use Rattle.runs.specs.Calls.{Call, reads, adds, revises, removes, steps, jobSteps, Returned, text, revision, freed, outcome}
 
 -- with another store; and after a step of copy c, with its place moved too

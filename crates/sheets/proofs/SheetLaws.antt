@@ -12,9 +12,9 @@ use Rattle.block.proofs.BytesLaws.{bytes-zeros, bytes-append}
 use Rattle.eme2.specs.Transform.{afterwards}
 use Rattle.eme2.proofs.Promise.{length-kept, bytes-kept, undone}
 use Rattle.records.specs.Record.{recordSize, textMost, greatestRevision, num, rev, mark, leadOf, sound, lead, recordOf}
+use Rattle.records.proofs.RecordLaws.{bytes-lead, num-record, rev-record, mark-record, lead-record, stored-record, length-record, sound-record}
 use Rattle.sheets.specs.Text.{textOf, sheet}
 use Rattle.sheets.proofs.TextLaws.{text-new}
-use Rattle.records.proofs.RecordLaws.{bytes-lead, num-record, rev-record, mark-record, lead-record, stored-record, length-record, sound-record}
 
 -- ---- its fields
 

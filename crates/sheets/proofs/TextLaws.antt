@@ -13,11 +13,11 @@ use lib.Seq.{length-take-le, take-at, drop-at}
 use Rattle.block.specs.Bytes.{Bytes}
 use Rattle.block.specs.Blocks.{blockAt}
 use Rattle.block.proofs.BytesLaws.{bytes-take, bytes-drop}
+use Rattle.block.proofs.PartLaws.{part-changed}
 use Rattle.eme2.specs.Transform.{afterwards}
 use Rattle.eme2.proofs.Promise.{length-kept, bytes-kept}
 use Rattle.records.specs.Record.{num, rev, mark, len, leadOf, stored}
 use Rattle.sheets.specs.Text.{textOf, sheet}
-use Rattle.block.proofs.PartLaws.{part-changed}
 
 module _ (r : List ℕ) where
   pub length-stored : 16 + len r ≤ length r → length (stored r) ≡ len r

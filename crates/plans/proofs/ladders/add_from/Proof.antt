@@ -1,16 +1,14 @@
 -- `plans::ladders::add_from` meets its contract: each return follows from the tests before it, in their order.
 -- Assumes nothing.
-use mathlib.Core.Path.{_≡_, sym, ap, _∙_}
-use mathlib.Core.Bool.{true, false}
+use mathlib.Core.Path.{sym, ap, _∙_}
 use mathlib.Core.List.{List}
 use Prim.Native.Nat.{ℕ, _<_}
 use native.Mathlib.Omega.{arith}
 use borrow.Author.Tests.{eq-eqb, ne-eqb}
 use Rattle.slots.specs.Slots.{slots, slot, find}
 use Rattle.slots.proofs.FindLaws.{find-le}
-use Rattle.plans.specs.declared.Plan.{Plan}
 use Rattle.plans.specs.declared.Plan.the-variants.{At}
-use Rattle.plans.specs.Plans.{addFrom, guard, absent}
+use Rattle.plans.specs.Plans.{addFrom}
 use Rattle.plans.proofs.PlanLaws.{yes, no, add-taken, add-new}
 use borrow.Author.Needs.{needs}
 use Rattle.plans.proofs.ladders.add_from.Statement.{statement}

@@ -1,6 +1,6 @@
 -- `plans::ladders::read_plan` meets its contract: 1 and 4 refuse as in a step, and else the rest of the ladder decides.
 -- Assumes nothing.
-use mathlib.Core.Path.{_≡_, sym, _∙_}
+use mathlib.Core.Path.{sym, _∙_}
 use mathlib.Core.List.{List}
 use Prim.Native.Nat.{ℕ}
 use Rattle.slots.specs.Slots.{slots, slot}

@@ -1,11 +1,10 @@
 -- `plans::ladders::revise_at_plan` meets its contract: each return follows from the tests before it, in their order.
 -- Assumes nothing.
 use mathlib.Core.Path.{_≡_, sym, ap, _∙_}
-use mathlib.Core.Bool.{Bool, true, false, not}
+use mathlib.Core.Bool.{true, not}
 use mathlib.Core.List.{List}
-use Prim.Native.Nat.{ℕ, _<_}
+use Prim.Native.Nat.{ℕ}
 use borrow.Author.Tests.{eq-eqb, ne-eqb, not-true, not-false}
-use lib.Dec.{eqb}
 use Rattle.records.specs.Record.{greatestRevision, rev, sound}
 use Rattle.slots.specs.Slots.{slot}
 use Rattle.plans.specs.Plans.{reviseAtPlan}

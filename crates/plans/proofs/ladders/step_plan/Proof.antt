@@ -1,6 +1,6 @@
 -- `plans::ladders::step_plan` meets its contract: each return follows from the tests before it, in their order.
 -- Assumes nothing.
-use mathlib.Core.Path.{_≡_, sym, _∙_}
+use mathlib.Core.Path.{sym, _∙_}
 use Rattle.plans.specs.Plans.{opened}
 use Rattle.plans.proofs.PlanLaws.{yes, no, opened-no}
 use borrow.Author.Needs.{needs}

@@ -4,9 +4,9 @@ use mathlib.Core.Path.{_≡_, sym, ap, _∙_}
 use Rattle.plans.specs.declared.Plan.the-variants.{Refuse, At}
 use Prim.Native.Nat.{ℕ}
 use lib.ListN.{length}
-use Rattle.plans.specs.Plans.{readPlan}
 use Rattle.records.proofs.FieldLaws.{sound-len}
 use Rattle.slots.specs.Slots.{slot}
+use Rattle.plans.specs.Plans.{readPlan}
 use Rattle.plans.proofs.PlanLaws.{used, read-says}
 use Rattle.store.specs.Calls.{readAnswer, readBuffer}
 use borrow.Author.Needs.{needs}

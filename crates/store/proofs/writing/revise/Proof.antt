@@ -9,9 +9,9 @@ use lib.ListN.{length}
 use Rattle.block.specs.Bytes.{Bytes}
 use Rattle.block.proofs.RowLaws.{bytes-row}
 use Rattle.records.specs.Record.{recordSize, textMost, rev}
-use Rattle.sheets.specs.Text.{sheet}
 use Rattle.records.proofs.FieldLaws.{rev-bound}
 use Rattle.slots.specs.Slots.{slots, slot, put}
+use Rattle.sheets.specs.Text.{sheet}
 use Rattle.plans.specs.Plans.{revisePlan}
 use Rattle.plans.proofs.PlanLaws.{revise-says}
 use Rattle.store.specs.declared.Stored.the-variants.{Revision}
