@@ -3,13 +3,14 @@
  * writes at a place that depends on one, as valgrind's memcheck sees it:
  *
  *   valgrind secret calls    every call of lagunedo.h that takes a key
- *   secret names             the names of these calls, a line each
+ *   valgrind secret branch   a branch on a secret byte
+ *   secret names             the names of the calls, a line each
  *
- * Memcheck prints a report for each such place in the machine code, and has
- * to print none. This program itself looks at what a call leaves: each byte
- * of the result secret, each number in the open, all as the same call leaves
- * it with nothing hidden. secret_test.sh runs it, and the look-up of
- * libprobe.a under the same eyes, which must be reported.
+ * Memcheck prints a report for each such place in the machine code. Of the
+ * calls it has to print none, and of the others one at least; secret_test.sh
+ * sees to that. This program itself looks at what a call leaves: every bit of
+ * the result secret, every number in the open, and all as the same call leaves
+ * it with nothing hidden.
  */
 
 #include <stdio.h>
@@ -40,24 +41,41 @@ static int ended(void)
     return 0;
 }
 
+static void secret_calls(void)
+{
+    secret_ciphers();
+    secret_store();
+}
+
+static void names(void)
+{
+    cipher_names();
+    store_names();
+}
+
+static const struct {
+    const char *word;
+    void (*run)(void);
+} parts[] = { { "calls", secret_calls }, { "branch", secret_branch } };
+
 int main(int count, char **words)
 {
     const char *word = count == 2 ? words[1] : "";
+    size_t i;
 
     if (strcmp(word, "names") == 0) {
-        cipher_names();
-        store_names();
+        names();
         return 0;
     }
     if (!RUNNING_ON_VALGRIND) {
         fprintf(stderr, "secret: nothing is found without valgrind\n");
         return 2;
     }
-    if (strcmp(word, "calls") == 0) {
-        secret_ciphers();
-        secret_store();
-        return ended();
-    }
-    fprintf(stderr, "usage: valgrind secret calls\n");
+    for (i = 0; i < sizeof parts / sizeof parts[0]; i++)
+        if (strcmp(word, parts[i].word) == 0) {
+            parts[i].run();
+            return ended();
+        }
+    fprintf(stderr, "usage: valgrind secret calls|branch, or secret names\n");
     return 2;
 }

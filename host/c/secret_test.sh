@@ -56,5 +56,13 @@ is_silent() { # WORD
     check "memcheck has no report of secret $1" [ ! -s report ]
 }
 
+# So that its silence says something.
+is_reported() { # WORD WHAT
+    watched "$1"
+    check "memcheck reports secret $1 (it ended with $status: $(cat out err report))" [ "$status" = 9 ]
+    check "memcheck reports of secret $1 what it is ($(cat report))" grep -qF "$2" report
+}
+
 is_silent calls
+is_reported branch 'Conditional jump or move depends on uninitialised value(s)'
 all_passed secret
