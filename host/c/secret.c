@@ -2,13 +2,15 @@
  * Whether anything in the library branches on a secret byte, or reads or
  * writes at a place that depends on one, as valgrind's memcheck sees it:
  *
- *   valgrind secret calls    every call of lagunedo.h that takes a key
- *   valgrind secret branch   a branch on a secret byte
- *   secret names             the names of the calls, a line each
+ *   valgrind secret calls          every call of lagunedo.h that takes a key
+ *   valgrind secret substitution   the substitution alone
+ *   valgrind secret look-up        the same, looked up in its tables
+ *   valgrind secret branch         a branch on a secret byte
+ *   secret names                   the names of the calls, a line each
  *
  * Memcheck prints a report for each such place in the machine code. Of the
- * calls it has to print none, and of the others one at least; secret_test.sh
- * sees to that. This program itself looks at what a call leaves: every bit of
+ * first two it has to print none, and of the next two one at least;
+ * secret_test.sh sees to that. This program itself looks at what a call leaves: every bit of
  * the result secret, every number in the open, and all as the same call leaves
  * it with nothing hidden.
  */
@@ -56,7 +58,10 @@ static void names(void)
 static const struct {
     const char *word;
     void (*run)(void);
-} parts[] = { { "calls", secret_calls }, { "branch", secret_branch } };
+} parts[] = { { "calls", secret_calls },
+              { "substitution", secret_substitution },
+              { "look-up", secret_look_up },
+              { "branch", secret_branch } };
 
 int main(int count, char **words)
 {
@@ -76,6 +81,7 @@ int main(int count, char **words)
             parts[i].run();
             return ended();
         }
-    fprintf(stderr, "usage: valgrind secret calls|branch, or secret names\n");
+    fprintf(stderr, "usage: valgrind secret "
+            "calls|substitution|look-up|branch, or secret names\n");
     return 2;
 }

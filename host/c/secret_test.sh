@@ -64,5 +64,7 @@ is_reported() { # WORD WHAT
 }
 
 is_silent calls
+is_silent substitution
+is_reported look-up 'Use of uninitialised value of size 8'
 is_reported branch 'Conditional jump or move depends on uninitialised value(s)'
 all_passed secret

@@ -38,6 +38,8 @@ void checked(int holds, const char *call, const char *what);
  */
 void secret_ciphers(void);
 void secret_store(void);
+void secret_substitution(void);
+void secret_look_up(void);
 void secret_branch(void);
 void cipher_names(void);
 void store_names(void);
