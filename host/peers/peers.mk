@@ -18,7 +18,7 @@ PEERS_PLACES := 16 32 48 64
 # endian.h asks for more than C99.
 PEERS_CFLAGS := $(HOST_CFLAGS) -O3 -fno-tree-slp-vectorize -D_DEFAULT_SOURCE
 
-.PHONY: host-bench peers-programs bench-versions versions-before
+.PHONY: host-bench peers-programs host-versions versions-before
 
 host-bench:
 	PEERS_PLACES='$(PEERS_PLACES)' host/peers/run
@@ -37,10 +37,11 @@ $(PEERS_OUT)/eme: $(PEERS_GO)
 	    GOCACHE=$(CURDIR)/$(PEERS_OUT)/go-cache go build -o $@ ./host/peers/eme
 
 # make bench-versions BEFORE=FOLDER: this build of the library beside the one whose liblagunedo.a and libprobe.a stand in the folder, in one run.
+# The folder is an absolute path, or goes by the root of the repository.
 VERSIONS_SOURCES := host/peers/versions/main.c $(patsubst %,host/peers/%.c,ciphers eme2 ours timed) host/c/fill.c host/peers/place.S
 VERSIONS_PROGRAMS := $(foreach build,before after,$(PEERS_PLACES:%=$(PEERS_OUT)/$(build)-%))
 
-bench-versions: versions-before $(VERSIONS_PROGRAMS)
+host-versions: versions-before $(VERSIONS_PROGRAMS)
 	@PEERS_PLACES='$(PEERS_PLACES)' host/peers/versions/run
 
 versions-before:
