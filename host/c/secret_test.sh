@@ -17,6 +17,8 @@ work=$(mktemp -d "$7/secret-test.XXXXXX") || exit 2
 trap 'rm -rf "$work"' EXIT
 cd "$work" || exit 2
 
+check "valgrind is here (Debian has it in the package valgrind)" command -v valgrind >valgrind
+
 # ---- the tables
 check "every form of a table is found in noise" "$tables" --try
 for file in "$library" "$shared"; do
