@@ -1,15 +1,13 @@
 -- Bits of xor, of a mask, of shifts and of a remainder; and the number that bits make.
 -- Assumes nothing.
 use mathlib.Core.Path.{_≡_, refl, sym, ap, ap₂, _∙_}
-use mathlib.Core.List.{List, [], _∷_, map}
 use Prim.Native.Nat.{ℕ, zero, suc, _+_, _*_, _/_, _%_, _^_, _<_}
 use native.Mathlib.Nat.{zero-add, suc-add, mod-lt, pow-suc, pow-succ', div-div-eq-div-mul}
 use native.Mathlib.Omega.{arith}
 use lib.Arith.{digits-div, digits-mod, mod-mul}
-use lib.Bits.{bitXor, bitAnd, xor-shr, xor-mod, and-shr, and-mod, shifted-half, shifted-even}
+use lib.Bits.{bitXor, bitAnd, xor-shr, xor-mod, and-shr, and-mod}
 use lib.Dec.{lit<}
 use lib.Pow.{pow-pos}
-use lib.ListN.{getD}
 use Rattle.block.specs.Tab.{tab}
 use Rattle.bits.specs.Planes.{bit, ofBits}
 

@@ -1,14 +1,14 @@
 -- Bytes of words and of planes, by their bits: what turning planes makes of bytes.
 -- Assumes nothing.
-use mathlib.Core.Path.{_≡_, refl, sym, ap, ap₂, _∙_}
-use mathlib.Core.List.{List, [], _∷_, map}
+use mathlib.Core.Path.{_≡_, refl, sym, ap, _∙_}
+use mathlib.Core.List.{List, [], _∷_}
 use Prim.Native.Nat.{ℕ, zero, suc, _+_, _*_, _/_, _%_, _^_, _<_}
 use native.Mathlib.Nat.{add-zero, add-comm}
 use native.Mathlib.Omega.{arith}
 use lib.ListN.{getD}
 use Rattle.block.specs.Tab.{tab, byte}
 use Rattle.block.proofs.TabLaws.{tab-ext}
-use Rattle.bits.specs.Planes.{bit, ofBits, byteAt, byteOf, planesOf, Flipped, Placed, Word}
+use Rattle.bits.specs.Planes.{bit, ofBits, byteAt, byteOf, Flipped, Placed, Word}
 use Rattle.bits.specs.Wires.{value, merge}
 use Rattle.bits.proofs.BitLaws.{bit-right, of-bits}
 use Rattle.bits.proofs.WireLaws.{merged-bit}

@@ -1,14 +1,14 @@
 -- Bytes put into a group of planes and taken out again, a turn of a loop at a time.
 -- Assumes nothing.
-use mathlib.Core.Path.{_≡_, refl, sym, ap, ap₂, subst, _∙_}
-use mathlib.Core.List.{List, [], _∷_}
+use mathlib.Core.Path.{_≡_, sym, ap, subst, _∙_}
+use mathlib.Core.List.{List}
 use Prim.Native.Nat.{ℕ, zero, suc, _+_, _*_, _/_, _%_, _≤_, _<_}
 use native.Mathlib.Nat.{add-zero}
 use native.Mathlib.Omega.{arith}
 use lib.ListN.{length, getD, set, length-set}
 use lib.Seq.{getD-set-same, getD-set-other}
 use Rattle.block.specs.Tab.{byte}
-use Rattle.bits.specs.Planes.{byteAt, byteOf, planesOf, Flipped, FlippedAll, Placed, Word, WordPut, Words, Spread}
+use Rattle.bits.specs.Planes.{byteAt, byteOf, planesOf, FlippedAll, Placed, Word, WordPut, Words, Spread}
 use Rattle.bits.proofs.PlaneLaws.{flip-planes, flip-words}
 use Rattle.bits.proofs.GroupLaws.{planes-at, below-next}
 

@@ -11,7 +11,7 @@ use borrow.Author.Tests.{eqb-true}
 use lib.Dec.{T, eqb, eqb→eq}
 use lib.ListN.{length, getD}
 use Rattle.block.proofs.XorLaws.{xor-assoc}
-use Rattle.block.proofs.Table.{every, each}
+use Rattle.block.proofs.Table.{each}
 use Rattle.bits.specs.Planes.{bit, Flipped}
 use Rattle.bits.specs.Wires.{Wire, input, xor, mask, right, left, value, wired, flip-ones, flip-twos, flip-fours, merge}
 use Rattle.bits.proofs.BitLaws.{bit-zero, bit-lt, bit-xor, bit-and, bit-right, mod-half, mod-last}

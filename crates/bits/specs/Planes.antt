@@ -4,7 +4,7 @@ use mathlib.Core.Path.{_≡_}
 use mathlib.Core.List.{List, [], _∷_, map}
 use Prim.Native.Nat.{ℕ, zero, suc, _+_, _*_, _/_, _%_, _^_, _<_}
 use lib.ListN.{length, getD, set}
-use Rattle.block.specs.Tab.{tab, byte}
+use Rattle.block.specs.Tab.{byte}
 use Rattle.bits.specs.declared.BitPlanes.{BitPlanes}
 
 -- bit i of a number, and the number of bits, the lowest first

@@ -1,7 +1,7 @@
 -- Words made of others by xor, masks and shifts: how planes are turned. Each bit of such a word is a sum of bits of those that it is made of.
 -- Assumes nothing.
 use mathlib.Core.List.{List, [], _∷_, map}
-use Prim.Native.Nat.{ℕ, _+_, _*_, _/_, _%_, _^_}
+use Prim.Native.Nat.{ℕ, _*_, _/_, _%_, _^_}
 use lib.Bits.{bitXor, bitAnd}
 use lib.ListN.{getD}
 

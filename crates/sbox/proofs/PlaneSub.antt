@@ -5,11 +5,11 @@ use mathlib.Core.List.{List, [], _∷_, _++_, map, append-assoc}
 use Prim.Native.Nat.{ℕ, zero, suc, _+_, _*_, _/_, _%_, _≤_, _<_}
 use native.Mathlib.Nat.{zero-add, div-div-eq-div-mul, not-suc-le-zero, le-of-suc-le-suc}
 use native.Mathlib.Omega.{arith}
-use lib.ListN.{length, getD, take, drop, length-map, length-drop, length-take, length-append, take-append-drop}
+use lib.ListN.{length, take, drop, length-map, length-drop, length-take, length-append, take-append-drop}
 use lib.Seq.{ext-getD, length-take-le, take-at, drop-at, drop-drop, take-add}
 use Rattle.block.specs.Tab.{tab, byte}
 use Rattle.block.proofs.TabLaws.{tab-ext, tab-eta, getD-map}
-use Rattle.bits.specs.Planes.{byteAt, byteOf, planesOf, Each, EachOf, Spread, Placed, Word}
+use Rattle.bits.specs.Planes.{byteOf, Each, EachOf, Spread, Placed, Word}
 
 module _ (f : ℕ → ℕ) (n : ℕ) (s s′ g h : List ℕ) (few : n ≤ 8) (into : Spread n s g) (each : EachOf f g h) (out : Spread n s′ h) where
   pub spread-byte : (i : ℕ) → i < 16 * n → byte s′ i ≡ f (byte s i)

@@ -2,7 +2,7 @@
 -- Assumes nothing.
 use mathlib.Core.List.{List, [], _∷_}
 use Prim.Native.Nat.{ℕ}
-use Rattle.sbox.specs.Gates.{Gate, xor, and}
+use Rattle.sbox.specs.Gates.{Gate, xor}
 
 -- 5.1.1
 abbrev pub affineGates : List Gate

@@ -1,7 +1,7 @@
 -- Gates as data. A list of gates is run over the words that are known, the newest first: each gate's answer joins them at the front, and its
 -- two numbers are places among those known before it.
 -- Assumes nothing.
-use mathlib.Core.List.{List, [], _∷_, map}
+use mathlib.Core.List.{List, [], _∷_}
 use Prim.Native.Nat.{ℕ}
 use lib.Bits.{bitXor, bitAnd}
 use lib.ListN.{getD}

@@ -1,10 +1,10 @@
 -- `sbox::singly` meets its contract: after a turn the bytes below `at` are done, and the others as they came.
 -- Assumes nothing.
 use mathlib.Core.Path.{_≡_, refl, sym, ap, _∙_}
-use mathlib.Core.List.{List, _++_, map}
-use Prim.Native.Nat.{ℕ, _+_, _-_, _≤_, _<_}
+use mathlib.Core.List.{List, _++_}
+use Prim.Native.Nat.{ℕ, _-_, _≤_}
 use native.Mathlib.Omega.{arith}
-use lib.ListN.{length, getD, take, drop, set, length-set, length-map}
+use lib.ListN.{length, getD, take, drop, set, length-set}
 use Rattle.sbox.specs.Directions.{directed}
 use Rattle.block.proofs.BlockLaws.{fill-turn, fill-next, fill-done}
 use Rattle.sbox.proofs.PlaneSub.{tail, length-tail, getD-tail, tail-start}

@@ -1,10 +1,10 @@
 -- `sbox::together` meets its contract: after a turn the bytes below `at` are done, and the others as they came.
 -- Assumes nothing.
-use mathlib.Core.Path.{_≡_, refl, sym, ap, _∙_}
+use mathlib.Core.Path.{_≡_, refl, ap, _∙_}
 use mathlib.Core.List.{List, _++_, map}
-use Prim.Native.Nat.{ℕ, _+_, _-_, _≤_, _<_}
+use Prim.Native.Nat.{ℕ, _+_, _-_, _≤_}
 use native.Mathlib.Omega.{arith}
-use lib.ListN.{length, getD, take, drop, set, length-set, length-map}
+use lib.ListN.{length, take, drop}
 use Rattle.sbox.specs.Directions.{directed}
 use borrow.Rule.Slice.PartMut.{mid-len}
 use Rattle.block.proofs.PartLaws.{part-changed}

@@ -1,10 +1,10 @@
 -- `bits::turn::flip_all` meets its contract: after t turns the planes below t are turned, and the others as they came.
 -- Assumes nothing.
-use mathlib.Core.Path.{_≡_, refl, sym, ap, subst, _∙_}
+use mathlib.Core.Path.{_≡_, refl, subst, _∙_}
 use mathlib.Core.List.{List}
-use Prim.Native.Nat.{ℕ, _+_, _*_, _-_, _≤_, _<_}
+use Prim.Native.Nat.{ℕ, _-_, _≤_, _<_}
 use native.Mathlib.Omega.{arith}
-use lib.ListN.{length, getD, length-set}
+use lib.ListN.{length}
 use Rattle.bits.specs.Planes.{words, planesOf, Flipped}
 use Rattle.bits.proofs.GroupLaws.{size-more, done-more, left-more}
 use Rattle.bits.proofs.turn.flip_all.Statement.{statement}

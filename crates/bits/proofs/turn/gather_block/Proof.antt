@@ -1,10 +1,10 @@
 -- `bits::turn::gather_block` meets its contract: after t turns the bytes of the planes below t are in their places.
 -- Assumes nothing.
-use mathlib.Core.Path.{_≡_, refl, sym, ap, subst, _∙_}
+use mathlib.Core.Path.{_≡_, subst, _∙_}
 use mathlib.Core.List.{List}
-use Prim.Native.Nat.{ℕ, _+_, _*_, _-_, _≤_, _<_}
+use Prim.Native.Nat.{ℕ, _-_, _≤_, _<_}
 use native.Mathlib.Omega.{arith}
-use lib.ListN.{length, getD, length-set}
+use lib.ListN.{length}
 use Rattle.bits.specs.Planes.{planesOf, Placed}
 use Rattle.bits.proofs.TurnLaws.{Four, spread-one, gather-more}
 use Rattle.bits.proofs.turn.gather_block.Statement.{statement}

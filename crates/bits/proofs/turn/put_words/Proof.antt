@@ -1,10 +1,9 @@
 -- `bits::turn::put_words` meets its contract: after i turns the bytes of the words below i are there.
 -- Assumes nothing.
-use mathlib.Core.Path.{_≡_, refl, sym, ap, subst, _∙_}
-use mathlib.Core.List.{List}
-use Prim.Native.Nat.{ℕ, _+_, _*_, _-_, _≤_, _<_}
+use mathlib.Core.Path.{_≡_, _∙_}
+use Prim.Native.Nat.{ℕ, _*_, _-_, _≤_, _<_}
 use native.Mathlib.Omega.{arith}
-use lib.ListN.{length, getD, length-set}
+use lib.ListN.{length, getD}
 use Rattle.bits.specs.Planes.{Word}
 use Rattle.bits.proofs.TurnLaws.{store-more}
 use Rattle.bits.proofs.turn.put_words.Statement.{statement}

@@ -1,10 +1,10 @@
 -- `bits::turn::spread_block` meets its contract: after t turns the planes below t have their four bytes.
 -- Assumes nothing.
-use mathlib.Core.Path.{_≡_, refl, sym, ap, subst, _∙_}
+use mathlib.Core.Path.{_≡_, _∙_}
 use mathlib.Core.List.{List}
-use Prim.Native.Nat.{ℕ, _+_, _*_, _-_, _≤_, _<_}
+use Prim.Native.Nat.{ℕ, _-_, _≤_, _<_}
 use native.Mathlib.Omega.{arith}
-use lib.ListN.{length, getD, length-set}
+use lib.ListN.{length}
 use Rattle.bits.specs.Planes.{planesOf}
 use Rattle.bits.proofs.GroupLaws.{size-more, done-more}
 use Rattle.bits.proofs.TurnLaws.{Four, spread-one}
