@@ -18,11 +18,6 @@
 // The lines to expect are the second implementation's (host/rust/second/examples/edges_store.rs).
 use libc::STDIN_FILENO;
 use patterns::fill;
-ghost use mathlib.Core.Path.{_≡_};
-ghost use lib.ListN.{length};
-// The calls, each with what it answered and left behind printed.
-mod calls;
-
 use script::Line;
 use script::at_most;
 use script::chosen;
@@ -30,6 +25,8 @@ use script::echoed;
 use script::past_line;
 use script::print;
 use script::word;
+ghost use mathlib.Core.Path.{_≡_};
+ghost use lib.ListN.{length};
 
 fn main() {
     let mut script = io::large_buffer();
@@ -106,27 +103,27 @@ fn on_store(l: Line, old: &[u8], new: &[u8], store: &mut [u8], before: &[u8])
     requires { ⌜ length (now before) ≡ length (now store) ⌝ }
 {
     if l.kind == b'c' {
-        calls::check(store, before);
+        printed_calls::check(store, before);
         return;
     }
     if l.kind == b'd' {
-        calls::read(old, new, store, before, word(l.a), l.b);
+        printed_calls::read(old, new, store, before, word(l.a), l.b);
         return;
     }
     if l.kind == b' ' {
-        calls::add(old, new, store, before, word(l.a), l.b, l.c);
+        printed_calls::add(old, new, store, before, word(l.a), l.b, l.c);
         return;
     }
     if l.kind == b'i' {
-        calls::revise(old, new, store, before, word(l.a), word(l.b), l.c, l.d);
+        printed_calls::revise(old, new, store, before, word(l.a), word(l.b), l.c, l.d);
         return;
     }
     if l.kind == b'o' {
-        calls::remove(store, before, word(l.a));
+        printed_calls::remove(store, before, word(l.a));
         return;
     }
     if l.kind == b'p' {
-        calls::step(old, new, store, before, l.a);
+        printed_calls::step(old, new, store, before, l.a);
         return;
     }
     by_hand(l.kind, l.a, l.b, l.c, old, store);
