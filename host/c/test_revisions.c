@@ -54,7 +54,7 @@ static void found(struct sheet sheet)
     expect(&read, LAGUNEDO_DONE, "read at its revision");
 }
 
-/* The lead byte for byte: the low half first, the high half behind the length. */
+/* The lead byte for byte: the high half stands behind the length. */
 static void halves(void)
 {
     static const uint8_t lead[LAGUNEDO_LEAD_SIZE] = {

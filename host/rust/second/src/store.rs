@@ -5,9 +5,7 @@ use crate::numbers::{
     BUFFER_LENGTH, KEY_LENGTH, LAST_REVISION, NO_FREE_SLOT, NO_SHEET, OTHER_REVISION,
     SHEET_PRESENT, SHEET_ZERO, SLOT_UNSOUND, STORE_LENGTH, TEXT_LENGTH,
 };
-use crate::record::{
-    self, Keys, CLEAR, GREATEST_REVISION, LONGEST, NEW, OLD, RECORD, SHORTEST,
-};
+use crate::record::{self, Keys, CLEAR, GREATEST_REVISION, LONGEST, NEW, OLD, RECORD, SHORTEST};
 
 /// The most slots that a store has.
 const MOST: usize = 1_024;
