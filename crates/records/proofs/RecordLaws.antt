@@ -32,7 +32,10 @@ bytes-lead n v m l h =
     (bytes-cons (below (n / 256 / 256 / 256))
     (bytes-cons (below v)
     (bytes-cons (below (v / 256))
-    (bytes-cons h (bytes-cons (lit< tt) (bytes-cons (below l) (bytes-cons (below (l / 256)) (bytes-zeros 6))))))))))
+    (bytes-cons h
+    (bytes-cons (lit< tt)
+    (bytes-cons (below l)
+    (bytes-cons (below (l / 256)) (bytes-cons (below (v / 256 / 256)) (bytes-cons (below (v / 256 / 256 / 256)) (bytes-zeros 4))))))))))))
 
 module _ (n v m : ℕ) (t : List ℕ) where
   pub num-record : n < 4294967296 → num (recordOf n v m t) ≡ n
@@ -84,7 +87,7 @@ module _ (n v m : ℕ) (t : List ℕ) where
     unfolding recordOf lead
     spare = refl
 
-    spares : allZero (take 6 (drop 10 (recordOf n v m t))) ≡ true
+    spares : allZero (take 4 (drop 12 (recordOf n v m t))) ≡ true
     unfolding recordOf lead allZero
     spares = refl
 
