@@ -37,7 +37,7 @@ zeros-end s i h = ap allZero (drop-of-length-le s {i = i} h)
 
 -- ---- tests joined by `&&`
 
-all : (a b c d e f g : Bool) → a && (b && (c && (d && (e && (f && g))))) ≡ true
+pub all : (a b c d e f g : Bool) → a && (b && (c && (d && (e && (f && g))))) ≡ true
     → (a ≡ true) × (b ≡ true) × (c ≡ true) × (d ≡ true) × (e ≡ true) × (f ≡ true) × (g ≡ true)
 all false b c d e f g h = absurd (false≢true h)
 all true false c d e f g h = absurd (false≢true h)
