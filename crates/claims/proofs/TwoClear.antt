@@ -69,7 +69,7 @@ unfolding twoClear row
 slot-1 = ap (take recordSize) (drop-at (clear 1) (clear 2) recordSize (length-clear 1)) ∙ take-all recordSize (clear 2) (omega (arith, length-clear 2))
 
 -- what holds of both slots
-both : (P : ℕ → Type 0) → P 0 → P 1 → (k : ℕ) → k < 2 → P k
+pub both : (P : ℕ → Type 0) → P 0 → P 1 → (k : ℕ) → k < 2 → P k
 both P a b zero h = a
 both P a b (suc zero) h = b
 both P a b (suc (suc k)) h = let y : ⊥ = omega arith in absurd y
