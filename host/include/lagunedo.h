@@ -260,8 +260,8 @@ uint32_t lagunedo_eme2_decipher(const uint8_t *key, size_t key_length,
  *   16-2111  text, zeros after its length
  *
  * The revision is its low half plus 65,536 times its high half, 1 to
- * 4,294,967,295. Records of libraries that knew the low half alone, and kept
- * bytes 10 to 15 at 0, are sound and mean what they meant.
+ * 4,294,967,295. What was sound to libraries that knew the low half alone, and
+ * asked for 0 in bytes 10 to 15, is sound and means what it meant.
  *
  * Bytes 0 to 15 are the lead. Under mark 1 or 2 the stored text is enciphered
  * with EME2-AES under that key with the whole lead, as stored, for associated
