@@ -92,7 +92,7 @@ pub slot-1 : slot twoClear 1 ≡ clear 2
 slot-1 = second-of-two 1 2
 
 -- what holds of both slots
-both : (P : ℕ → Type 0) → P 0 → P 1 → (k : ℕ) → k < 2 → P k
+pub both : (P : ℕ → Type 0) → P 0 → P 1 → (k : ℕ) → k < 2 → P k
 both P a b zero h = a
 both P a b (suc zero) h = b
 both P a b (suc (suc k)) h = let y : ⊥ = omega arith in absurd y
