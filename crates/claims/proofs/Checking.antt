@@ -58,10 +58,13 @@ not-faulty s k e = by-tests (sound (slot s k)) (eqb (num (slot s k)) 0) (ltb (fi
     by-tests true false true p q r x = let y : _≡_ {A = ℕ} 1 0 = ap (λ (t : Bool). cond t 1 0) x in let v : ⊥ = omega arith in absurd v
     by-tests false b c p q r x = let y : _≡_ {A = ℕ} 1 0 = ap (λ (t : Bool). cond t 1 0) x in let v : ⊥ = omega arith in absurd v
 
+pub never-faulty : (s : List ℕ) → Passes s → (k : ℕ) → k < slots s → faulty s k ≡ false
+unfolding firstFault
+never-faulty s e k h = lowest-below (faulty s) (slots s) k (omega (arith, nothing-found s e .1))
+
 module _ (s : List ℕ) (b : Bytes s) (e : Passes s) where
   each-slot : (k : ℕ) → k < slots s → (sound (slot s k) ≡ true) × ((num (slot s k) ≡ 0 → ⊥) → k ≤ find s (num (slot s k)))
-  unfolding firstFault
-  each-slot k h = not-faulty s k (lowest-below (faulty s) (slots s) k (omega (arith, nothing-found s e .1)))
+  each-slot k h = not-faulty s k (never-faulty s e k h)
 
   pub passes-sound : SoundStore s
   passes-sound = record { size = nothing-found s e .0; bytes = b; each = λ k h. each-slot k h .0 }
@@ -80,13 +83,18 @@ module _ (s : List ℕ) (b : Bytes s) (e : Passes s) where
 
 -- ---- to the check
 
-pub good-passes : (s : List ℕ) → SoundStore s → Apart s → Passes s
-unfolding checkAnswer firstFault faulty
-good-passes s g a =
-    let p : ℕ → Bool = λ k. not (sound (slot s k)) || (not (eqb (num (slot s k)) 0) && ltb (find s (num (slot s k))) k) in
-    let h : lowest p (slots s) < slots s → ⊥ = λ q. clash (p (lowest p (slots s))) (lowest-has p (slots s) q) (fine (lowest p (slots s)) q) in
-    ap₂ (λ (x y : Bool). cond x (Refused StoreLength) (cond y (Fault (lowest p (slots s))) (counts s))) (g .size)
+-- a store of the right size without a faulty slot
+pub none-faulty : (s : List ℕ) → badSize s ≡ false → ((k : ℕ) → k < slots s → faulty s k ≡ false) → Passes s
+unfolding checkAnswer firstFault
+none-faulty s b f =
+    let p : ℕ → Bool = faulty s in
+    let h : lowest p (slots s) < slots s → ⊥ = λ q. clash (p (lowest p (slots s))) (lowest-has p (slots s) q) (f (lowest p (slots s)) q) in
+    ap₂ (λ (x y : Bool). cond x (Refused StoreLength) (cond y (Fault (lowest p (slots s))) (counts s))) b
     (le-ltb (lowest p (slots s)) (slots s) (omega (arith, h)))
+
+pub good-passes : (s : List ℕ) → SoundStore s → Apart s → Passes s
+unfolding faulty
+good-passes s g a = none-faulty s (g .size) fine
   where
     by-number : (k : ℕ) (t : Bool) → k < slots s → eqb (num (slot s k)) 0 ≡ t → not t && ltb (find s (num (slot s k))) k ≡ false
     by-number k true h e = refl

@@ -18,3 +18,4 @@ pub mod PlainLaws
 pub mod Operators
 pub mod RemoveAgain
 pub mod Witness
+pub mod Earlier

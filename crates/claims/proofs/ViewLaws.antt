@@ -33,7 +33,7 @@ at-places f i (suc n) (suc k) h =
     let e : suc i + k ≡ i + suc k = omega arith in
     at-places f (suc i) n k (le-of-suc-le-suc h) ∙ ap f e
 
-same-places : (f g : ℕ → Place) (i n : ℕ) → ((j : ℕ) → i ≤ j → j < i + n → f j ≡ g j) → placesFrom f i n ≡ placesFrom g i n
+pub same-places : (f g : ℕ → Place) (i n : ℕ) → ((j : ℕ) → i ≤ j → j < i + n → f j ≡ g j) → placesFrom f i n ≡ placesFrom g i n
 unfolding placesFrom
 same-places f g i zero h = refl
 same-places f g i (suc n) h =

@@ -4,3 +4,4 @@ pub mod View
 pub mod Machine
 pub mod Claims
 pub mod Operators
+pub mod Earlier

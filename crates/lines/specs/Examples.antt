@@ -28,6 +28,16 @@ unfolding store row num rev mark len allZero soundUsed sound scan tally findBy b
     usedWord freeWord clearWord oldWord newWord field named line slotLine lines countsLine listing
 example = refl
 
+-- 02, order 1: a revision is printed whole, up to ten digits: "0 305 4294967295 0 16"
+greatest : listing
+    (0x31 ∷ 0x01 ∷ 0 ∷ 0 ∷ 0xff ∷ 0xff ∷ 0 ∷ 0 ∷ 0x10 ∷ 0 ∷ 0xff ∷ 0xff ∷ replicate 2100 0) ≡
+    48 ∷ 32 ∷ 51 ∷ 48 ∷ 53 ∷ 32 ∷ 52 ∷ 50 ∷ 57 ∷ 52 ∷ 57 ∷ 54 ∷ 55 ∷ 50 ∷ 57 ∷ 53 ∷ 32 ∷ 48 ∷ 32 ∷ 49 ∷ 54 ∷ 10
+    ∷ 117 ∷ 115 ∷ 101 ∷ 100 ∷ 32 ∷ 49 ∷ 32 ∷ 102 ∷ 114 ∷ 101 ∷ 101 ∷ 32 ∷ 48 ∷ 32 ∷ 99 ∷ 108 ∷ 101 ∷ 97 ∷ 114 ∷ 32 ∷ 49 ∷ 32
+    ∷ 111 ∷ 108 ∷ 100 ∷ 32 ∷ 48 ∷ 32 ∷ 110 ∷ 101 ∷ 119 ∷ 32 ∷ 48 ∷ 10 ∷ []
+unfolding row num rev mark len allZero soundUsed sound scan tally findBy badSize faulty firstFault counted checkAnswer digits decimal
+    usedWord freeWord clearWord oldWord newWord field named line slotLine lines countsLine listing
+greatest = refl
+
 -- an empty store: "used 0 free 0 clear 0 old 0 new 0"
 empty : listing [] ≡
     117 ∷ 115 ∷ 101 ∷ 100 ∷ 32 ∷ 48 ∷ 32 ∷ 102 ∷ 114 ∷ 101 ∷ 101 ∷ 32 ∷ 48 ∷ 32 ∷ 99 ∷ 108 ∷ 101 ∷ 97 ∷ 114 ∷ 32 ∷ 48 ∷ 32

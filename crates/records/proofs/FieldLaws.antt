@@ -37,7 +37,7 @@ zeros-end s i h = ap allZero (drop-of-length-le s {i = i} h)
 
 -- ---- tests joined by `&&`
 
-all : (a b c d e f g : Bool) → a && (b && (c && (d && (e && (f && g))))) ≡ true
+pub all : (a b c d e f g : Bool) → a && (b && (c && (d && (e && (f && g))))) ≡ true
     → (a ≡ true) × (b ≡ true) × (c ≡ true) × (d ≡ true) × (e ≡ true) × (f ≡ true) × (g ≡ true)
 all false b c d e f g h = absurd (false≢true h)
 all true false c d e f g h = absurd (false≢true h)
@@ -57,7 +57,7 @@ pub record Used (r : List ℕ) : Type 0 where
   pub spare : byte r 7 ≡ 0
   pub atLeast : 16 ≤ len r
   pub atMost : len r ≤ textMost
-  pub spares : allZero (take 6 (drop 10 r)) ≡ true
+  pub spares : allZero (take 4 (drop 12 r)) ≡ true
   pub after : allZero (drop (16 + len r) r) ≡ true
 
 module _ (r : List ℕ) where
@@ -65,7 +65,7 @@ module _ (r : List ℕ) where
   unfolding soundUsed
   used s =
       let h = all (ltb 0 (rev r)) (leb (mark r) 2) (eqb (byte r 7) 0) (leb 16 (len r)) (leb (len r) textMost)
-      (allZero (take 6 (drop 10 r))) (allZero (drop (16 + len r) r)) s in
+      (allZero (take 4 (drop 12 r))) (allZero (drop (16 + len r) r)) s in
       record {
         revised = ltb-true 0 (rev r) (h .0);
         marked = leb-true (mark r) 2 (h .1);
@@ -79,11 +79,11 @@ module _ (r : List ℕ) where
   pub unsound : (Used r → ⊥) → soundUsed r ≡ false
   unsound h = refuted (soundUsed r) (λ (s : soundUsed r ≡ true). h (used s))
 
-  pub unsound-spares : allZero (take 6 (drop 10 r)) ≡ false → soundUsed r ≡ false
+  pub unsound-spares : allZero (take 4 (drop 12 r)) ≡ false → soundUsed r ≡ false
   unsound-spares e = unsound (λ (u : Used r). false≢true (sym e ∙ u .spares))
 
   -- where all tests but the last pass, the last decides
-  pub used-last : 1 ≤ rev r → mark r ≤ 2 → byte r 7 ≡ 0 → 16 ≤ len r → len r ≤ textMost → allZero (take 6 (drop 10 r)) ≡ true
+  pub used-last : 1 ≤ rev r → mark r ≤ 2 → byte r 7 ≡ 0 → 16 ≤ len r → len r ≤ textMost → allZero (take 4 (drop 12 r)) ≡ true
       → soundUsed r ≡ allZero (drop (16 + len r) r)
   unfolding soundUsed
   used-last a b c d e f =
@@ -120,4 +120,4 @@ module _ (r : List ℕ) where
 
   pub rev-bound : Bytes r → rev r ≤ greatestRevision
   unfolding rev
-  rev-bound b = omega (arith, b .below 4, b .below 5)
+  rev-bound b = omega (arith, b .below 4, b .below 5, b .below 10, b .below 11)

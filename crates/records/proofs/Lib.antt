@@ -2,3 +2,4 @@
 pub mod FieldLaws
 pub mod WriteLaws
 pub mod RecordLaws
+pub mod EarlierLaws

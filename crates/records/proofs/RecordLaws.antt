@@ -5,7 +5,6 @@ use mathlib.Core.Bool.{true}
 use mathlib.Core.List.{List, _++_}
 use Prim.Native.Nat.{ℕ, zero, suc, _+_, _-_, _/_, _%_, _≤_, _<_}
 use native.Mathlib.Omega.{arith}
-use lib.Dec.{lit<}
 use lib.ListN.{length, take, drop, replicate, length-append, length-replicate}
 use lib.Seq.{take-at, drop-at, drop-drop}
 use Rattle.block.specs.Bytes.{Bytes}
@@ -20,19 +19,18 @@ unfolding allZero
 allZero-zeros zero = refl
 allZero-zeros (suc n) = allZero-zeros n
 
-below : (x : ℕ) → x % 256 < 256
-below x = omega arith
-
 pub bytes-lead : (n v m l : ℕ) → m < 256 → Bytes (lead n v m l)
 unfolding lead
 bytes-lead n v m l h =
-    bytes-cons (below n)
-    (bytes-cons (below (n / 256))
-    (bytes-cons (below (n / 256 / 256))
-    (bytes-cons (below (n / 256 / 256 / 256))
-    (bytes-cons (below v)
-    (bytes-cons (below (v / 256))
-    (bytes-cons h (bytes-cons (lit< tt) (bytes-cons (below l) (bytes-cons (below (l / 256)) (bytes-zeros 6))))))))))
+    bytes-cons (omega arith)
+    (bytes-cons (omega arith)
+    (bytes-cons (omega arith)
+    (bytes-cons (omega arith)
+    (bytes-cons (omega arith)
+    (bytes-cons (omega arith)
+    (bytes-cons h
+    (bytes-cons (omega arith)
+    (bytes-cons (omega arith) (bytes-cons (omega arith) (bytes-cons (omega arith) (bytes-cons (omega arith) (bytes-zeros 4))))))))))))
 
 module _ (n v m : ℕ) (t : List ℕ) where
   pub num-record : n < 4294967296 → num (recordOf n v m t) ≡ n
@@ -84,7 +82,7 @@ module _ (n v m : ℕ) (t : List ℕ) where
     unfolding recordOf lead
     spare = refl
 
-    spares : allZero (take 6 (drop 10 (recordOf n v m t))) ≡ true
+    spares : allZero (take 4 (drop 12 (recordOf n v m t))) ≡ true
     unfolding recordOf lead allZero
     spares = refl
 

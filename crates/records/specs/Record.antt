@@ -4,7 +4,7 @@
 -- Assumes nothing.
 use mathlib.Core.Bool.{Bool, true, cond, _&&_}
 use mathlib.Core.List.{List, [], _∷_, _++_}
-use Prim.Native.Nat.{ℕ, _+_, _-_, _/_, _%_}
+use Prim.Native.Nat.{ℕ, _+_, _-_, _*_, _/_, _%_}
 use lib.Dec.{eqb, ltb, leb}
 use lib.ListN.{length, take, drop, replicate}
 use Rattle.block.specs.Tab.{byte}
@@ -20,9 +20,9 @@ recordSize = 2112
 abbrev pub textMost : ℕ
 textMost = 2096
 
--- a revision of at most 65,535
+-- 02, order 1: a revision of at most 4,294,967,295
 abbrev pub greatestRevision : ℕ
-greatestRevision = 65535
+greatestRevision = 4294967295
 
 -- ---- the fields
 
@@ -30,9 +30,9 @@ greatestRevision = 65535
 unfoldable pub num : List ℕ → ℕ
 num r = le32 r 0
 
--- bytes 4-5: revision, 1 to the greatest
+-- bytes 4-5: revision, 1 to the greatest; its high half in bytes 10-11 (02, order 1)
 unfoldable pub rev : List ℕ → ℕ
-rev r = le16 r 4
+rev r = le16 r 4 + 65536 * le16 r 10
 
 -- byte 6: mark, 0 clear, 1 old key, 2 new key
 unfoldable pub mark : List ℕ → ℕ
@@ -56,13 +56,13 @@ unfoldable pub allZero : List ℕ → Bool
 allZero [] = true
 allZero (x ∷ xs) = eqb x 0 && allZero xs
 
--- every field is as tabled; byte 7 and bytes 10-15 are 0, and so is the text after its length
+-- every field is as tabled; byte 7 and bytes 12-15 are 0, and so is the text after its length
 unfoldable pub soundUsed : List ℕ → Bool
 soundUsed r =
     ltb 0 (rev r)
     && (leb (mark r) 2
     && (eqb (byte r 7) 0
-    && (leb 16 (len r) && (leb (len r) textMost && (allZero (take 6 (drop 10 r)) && allZero (drop (16 + len r) r))))))
+    && (leb 16 (len r) && (leb (len r) textMost && (allZero (take 4 (drop 12 r)) && allZero (drop (16 + len r) r))))))
 
 -- a free slot is sound if all its bytes are 0
 unfoldable pub sound : List ℕ → Bool
@@ -83,7 +83,9 @@ lead n v m l =
     ∷ 0
     ∷ l % 256
     ∷ l / 256 % 256
-    ∷ replicate 6 0
+    ∷ v / 256 / 256 % 256
+    ∷ v / 256 / 256 / 256 % 256
+    ∷ replicate 4 0
 
 -- the lead, the text as it is to be stored, and zeros after it
 unfoldable pub recordOf : ℕ → ℕ → ℕ → List ℕ → List ℕ

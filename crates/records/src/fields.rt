@@ -1,7 +1,8 @@
 // The fields of a record, and whether it is sound.
 ghost use mathlib.Core.Path.{_≡_};
-ghost use Prim.Native.Nat.{_≤_};
+ghost use Prim.Native.Nat.{_+_, _≤_, _<_};
 ghost use lib.ListN.{length};
+ghost use Rattle.block.specs.LittleEndian.{le16};
 ghost use Rattle.records.specs.Record.{recordSize, num, rev, mark, len, allZero, soundUsed, sound};
 use super::TEXT_MOST;
 
@@ -17,7 +18,7 @@ pub fn revision(r: &[u8]) -> u32
     requires { ⌜ 16 ≤ length (now r) ⌝ }
     ensures { λ x. ⌜ x ≡ rev (now (r .entry)) ⌝ }
 {
-    r[4] as u32 + 256 * (r[5] as u32)
+    half(r, 4) + 65536 * half(r, 10)
 }
 
 // 0 clear, 1 old key, 2 new key; in an unsound record anything.
@@ -32,7 +33,15 @@ pub fn text_length(r: &[u8]) -> usize
     requires { ⌜ 16 ≤ length (now r) ⌝ }
     ensures { λ x. ⌜ x ≡ len (now (r .entry)) ⌝ }
 {
-    r[8] as usize + 256 * (r[9] as usize)
+    half(r, 8) as usize
+}
+
+// The number in the two bytes from `at` on.
+fn half(r: &[u8], at: usize) -> u32
+    requires { ⌜ at + 2 ≤ length (now r) ⌝ }
+    ensures { λ x. ⌜ (x ≡ le16 (now (r .entry)) at) × (x < 65536) ⌝ }
+{
+    r[at] as u32 + 256 * (r[at + 1] as u32)
 }
 
 // 01: a free slot is all zeros, and in a used one every field is as tabled.
@@ -66,7 +75,7 @@ fn is_sound_used(r: &[u8]) -> bool
     if l > TEXT_MOST {
         return false;
     }
-    if !zeros(&r[10..16]) {
+    if !zeros(&r[12..16]) {
         return false;
     }
     let end = 16 + l;

@@ -21,5 +21,5 @@ pub const RECORD_SIZE: usize = 2112;
 // 01: a text of at most 2,096 bytes.
 pub const TEXT_MOST: usize = 2096;
 
-// 01: a revision of at most 65,535.
-pub const GREATEST_REVISION: u32 = 65535;
+// 02, order 1: a revision of at most 4,294,967,295.
+pub const GREATEST_REVISION: u32 = 4294967295;

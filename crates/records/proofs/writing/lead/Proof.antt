@@ -30,6 +30,12 @@ cast-t25 c = search needs
 cast-t28 : tie.Need-cast-t28
 cast-t28 c = search needs
 
+cast-t32 : tie.Need-cast-t32
+cast-t32 c = search needs
+
+cast-t37 : tie.Need-cast-t37
+cast-t37 c = search needs
+
 returns : tie.Need-returns
 unfolding lead
 returns c = refl
@@ -37,4 +43,4 @@ returns c = refl
 pub lead-spec : {M : Type 1} → statement M
 lead-spec =
     tie.close
-    (tie.spec cast-t6 cast-t9 cast-t13 cast-t18 cast-t20 cast-t23 cast-t25 cast-t28 returns)
+    (tie.spec cast-t6 cast-t9 cast-t13 cast-t18 cast-t20 cast-t23 cast-t25 cast-t28 cast-t32 cast-t37 returns)

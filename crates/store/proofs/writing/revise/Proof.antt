@@ -8,7 +8,7 @@ use native.Mathlib.Omega.{arith}
 use lib.ListN.{length}
 use Rattle.block.specs.Bytes.{Bytes}
 use Rattle.block.proofs.RowLaws.{bytes-row}
-use Rattle.records.specs.Record.{recordSize, textMost, rev}
+use Rattle.records.specs.Record.{recordSize, textMost, greatestRevision, rev}
 use Rattle.records.proofs.FieldLaws.{rev-bound}
 use Rattle.slots.specs.Slots.{slots, slot, put}
 use Rattle.sheets.specs.Text.{sheet}
@@ -29,10 +29,11 @@ enum-known-x c = search needs
 enum-known-k : tie.Need-enum-known-k
 enum-known-k c = search needs
 
--- the plan ends at a slot that has the revision seen
+-- the plan ends at a slot that has the revision seen, and that is not the greatest
 planned : (c : tie.After-k)
     → let a = c .before .before .before .before .before .before .before .before .args in let k : ℕ = c .k .given .0 .0 in
     (k < slots (a .store .now)) × (length (a .text .now) ≤ textMost) × (a .seen ≡ rev (slot (a .store .now) k))
+    × (rev (slot (a .store .now) k) ≡ greatestRevision → ⊥)
 planned c =
     let pl = c .before .before in
     let a = pl .before .before .before .before .before .before .args in
@@ -40,7 +41,7 @@ planned c =
     let e : revisePlan (a .old .now) (a .new .now) (a .store .now) (a .sheet) (a .seen) (a .text .now) ≡ At k =
     sym (pl .revise-plan .ensures) ∙ c .k .given .1 in
     let r = revise-says (a .old .now) (a .new .now) (a .store .now) (a .sheet) (a .seen) (a .text .now) k e in
-    (r .at .within, r .fits, r .seen)
+    (r .at .within, r .fits, r .seen, r .below)
 
 add-v : tie.Need-add-v
 add-v c =
@@ -51,7 +52,8 @@ add-v c =
     let s : List ℕ = a .store .now in
     let bs : Bytes s = record { below = λ i. sk .slice-known .given i .fits } in
     let k : ℕ = kk .k .given .0 .0 in
-    omega (arith, planned kk .2, rev-bound (slot s k) (bytes-row recordSize s k bs))
+    let p = planned kk in
+    omega (arith, p .2, p .3, rev-bound (slot s k) (bytes-row recordSize s k bs))
 
 put-sheet-at-requires : tie.Need-put-sheet-at-requires
 put-sheet-at-requires c κs = let p = planned (c .before .before) in (p .0, p .1)
