@@ -40,6 +40,7 @@ pub use record::Keys;
 pub use slip::Slip;
 pub use step::{step, Outcome};
 pub use store::{add, check, read, remove, revise, Checked, Counts, Found};
+pub use substitution::{inv_sub, sub};
 
 /// One block overwritten with what AES makes of it, deciphered if `back`
 /// is true. Returns 0, or the number of the first refusal that applies (01,
