@@ -43,6 +43,12 @@ $(cat blue)" ]
         check "letters of the locale are shown" grep -qF "$(printf '[31m\303\244\\xff LAST')" seen
     fi
 
+    # So it is with a block.
+    printf 'BELL\007 \377 \\ SIXTEEN' | head -c 16 >odd
+    unit odd.unit disk32.key 7 odd
+    at_terminal odd.unit xts-block --xts-key disk32.key --unit 7 --block 0 "<odd.unit"
+    check "a block is escaped" grep -qF 'BELL\x07 \xff \\ SIXTEE' seen
+
     # A text from the terminal itself: what is read is said, and end of input ends it.
     printf 'PRESS 2 BLUE, DRY 20 MIN\n\004' >typed
     gives 0 new typed.store 1
