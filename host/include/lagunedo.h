@@ -80,8 +80,8 @@ extern "C" {
 /*
  * The numbers returned
  *
- * 1 to 14 are those of 01, and none changes its meaning; 9 is given at the
- * last revision that 02 has. 14 is never returned, since deciphering keeps
+ * 1 to 14 are those of 01, and none changes its meaning; which revision is the
+ * last, for 9, is 02's to say. 14 is never returned, since deciphering keeps
  * the length. 15 to 17 are those of 02's order 3, and only the calls of
  * XTS-AES return them. 0 and 256 are no refusals.
  *
@@ -272,9 +272,9 @@ uint32_t lagunedo_eme2_decipher(const uint8_t *key, size_t key_length,
  *   12-15    0
  *   16-2111  text, zeros after its length
  *
- * The revision is 65,536 times its high half and its low half, 1 to
- * 4,294,967,295. Records of libraries that knew only the low half, and kept
- * bytes 10 and 11 at 0, are sound and mean what they meant.
+ * The revision is its low half plus 65,536 times its high half, 1 to
+ * 4,294,967,295. What was sound to libraries that knew the low half alone, and
+ * asked for 0 in bytes 10 to 15, is sound and means what it meant.
  *
  * Bytes 0 to 15 are the lead. Under mark 1 or 2 the stored text is enciphered
  * with EME2-AES under that key with the whole lead, as stored, for associated

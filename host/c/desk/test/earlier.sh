@@ -44,7 +44,7 @@ gives 0 list earlier.revised
 check "65,535 went on to 65,536 in three slots" [ "$(grep -c ' 65536 2 ' out)" = 3 ]
 texts_read earlier.revised 1 --key earlier.new
 
-mkdir made
-check "this desk makes the store too" "$earlier/make" "$desk" made >out 2>err
-check "the store made is the one kept" cmp made/store "$earlier/store"
-check "and so is its listing" cmp made/listing "$earlier/listing"
+mkdir earlier.made
+check "this desk makes the store too" "$earlier/make" "$desk" earlier.made >out 2>err
+check "the store made is the one kept" cmp earlier.made/store "$earlier/store"
+check "and so is its listing" cmp earlier.made/listing "$earlier/listing"

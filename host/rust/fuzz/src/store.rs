@@ -74,8 +74,9 @@ fn draw_slot(script: &mut Script, record: &mut [u8]) {
     }
 }
 
-/// Fields that are mostly as tabled; the text's own bytes may be any, since
-/// under a key any bytes are the encipherment of some text.
+/// Fields that are mostly as tabled, revisions small or beside an end of a half;
+/// the text's own bytes may be any, since under a key any bytes are the
+/// encipherment of some text.
 fn draw_used(script: &mut Script, record: &mut [u8]) {
     let sheet = match script.byte() {
         choice @ ..200 => u32::from(choice) % 7 + 1,
