@@ -10,7 +10,7 @@ use Rattle.block.specs.Bytes.{Bytes}
 use Rattle.slots.specs.Slots.{slots, slot}
 use Rattle.checking.specs.Check.{checkAnswer, counts, marked}
 use Rattle.store.specs.declared.Removed.the-variants.{Done}
-use Rattle.claims.specs.Machine.{Event, reading, adding, revising, removing, stepping, AllAllowed, Answer, ofRemoved, ofStep}
+use Rattle.claims.specs.Machine.{Event, reading, adding, converting, revising, removing, stepping, AllAllowed, Answer, ofRemoved, ofStep}
 use Rattle.claims.specs.Machine.{State, Step, storeStep, finalBy, answers}
 
 -- a key: 48 or 64 bytes
@@ -32,6 +32,7 @@ abbrev pub stepsOf : ℕ → List Event → ℕ
 stepsOf c [] = 0
 stepsOf c (reading n b ∷ es) = stepsOf c es
 stepsOf c (adding n t ∷ es) = stepsOf c es
+stepsOf c (converting n x ∷ es) = stepsOf c es
 stepsOf c (revising n v t ∷ es) = stepsOf c es
 stepsOf c (removing n ∷ es) = stepsOf c es
 stepsOf c (stepping d ∷ es) = cond (eqb c d) (suc (stepsOf c es)) (stepsOf c es)
