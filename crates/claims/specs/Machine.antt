@@ -13,9 +13,9 @@ use Rattle.store.specs.declared.Stored.{Stored}
 use Rattle.store.specs.declared.Removed.{Removed}
 use Rattle.store.specs.Calls.{readAnswer, readBuffer, addAnswer, addStore, reviseAnswer, reviseStore, removeAnswer, removeStore}
 use Rattle.store.specs.Calls.{stepAnswer, placeAfter, stepStore}
-use Rattle.store.specs.declared.Stored.the-variants.{Refused}
 use Rattle.store.specs.Conversions.{Source, refuses, gives, convertAnswer, convertStore}
-use Rattle.claims.specs.Plain.{Place, readIn, addIn, reviseIn, removeIn, readText, readInto, added, afterAdd, revised, afterRevise, gone, afterRemove}
+use Rattle.claims.specs.Plain.{Place, readIn, addIn, reviseIn, removeIn, readText, readInto, added, afterAdd, converted, afterConverting}
+use Rattle.claims.specs.Plain.{revised, afterRevise, gone, afterRemove}
 
 -- read sheet n into the buffer b; add sheet n with text t; add sheet n from a source elsewhere (02's conversions); revise sheet n, seen at revision v,
 -- with text t; remove sheet n; a step of copy c
@@ -107,8 +107,7 @@ module _ (o w : List ℕ) where
 abbrev pub listAnswer : Event → List Place → Answer
 listAnswer (reading n b) l = ofRead (readText l (readIn l n (length b))) (readInto l b (readIn l n (length b)))
 listAnswer (adding n t) l = ofStored (added (addIn l n t))
-listAnswer (converting n (refuses x)) l = ofStored (Refused x)
-listAnswer (converting n (gives t)) l = ofStored (added (addIn l n t))
+listAnswer (converting n x) l = ofStored (converted l n x)
 listAnswer (revising n v t) l = ofStored (revised l (reviseIn l n v t))
 listAnswer (removing n) l = ofRemoved (gone (removeIn l n))
 listAnswer (stepping c) l = ofStep
@@ -116,8 +115,7 @@ listAnswer (stepping c) l = ofStep
 abbrev pub listNext : Event → List Place → List Place
 listNext (reading n b) l = l
 listNext (adding n t) l = afterAdd l n t (addIn l n t)
-listNext (converting n (refuses x)) l = l
-listNext (converting n (gives t)) l = afterAdd l n t (addIn l n t)
+listNext (converting n x) l = afterConverting l n x
 listNext (revising n v t) l = afterRevise l n t (reviseIn l n v t)
 listNext (removing n) l = afterRemove l (removeIn l n)
 listNext (stepping c) l = l
