@@ -5,6 +5,7 @@ pub mod BytesLaws
 pub mod Table
 pub mod XorLaws
 pub mod BlockLaws
+pub mod AllBlocks
 pub mod ArrayBytes
 pub mod DoubleLaws
 pub mod PadLaws

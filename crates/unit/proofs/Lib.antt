@@ -1,0 +1,3 @@
+-- What is proved of a unit.
+pub mod AloneLaws
+pub mod Undo
