@@ -7,14 +7,14 @@ use native.Mathlib.Omega.{arith}
 use lib.ListN.{length}
 use Rattle.block.specs.Bytes.{Bytes, Block}
 use Rattle.block.specs.Blocks.{full, rest, blocks}
-use Rattle.block.specs.Double.{double}
+use Rattle.block.specs.Double.{double, doubles}
 use Rattle.block.specs.Permutation.{Undoes}
 use Rattle.block.proofs.XorLaws.{block-⊕}
 use Rattle.block.proofs.BytesLaws.{bytes-drop, bytes-zeros}
 use Rattle.block.proofs.BlockLaws.{length-rest}
 use Rattle.block.proofs.AllBlocks.{AllBlocks, all-append, all-blocks}
 use Rattle.block.proofs.DoubleLaws.{block-double, block-pad}
-use Rattle.mode.specs.TStar.{TTs, doubles, shortTT, sum, someTStar, tStar, eme2TStar}
+use Rattle.mode.specs.TStar.{TTs, shortTT, sum, someTStar, tStar, eme2TStar}
 use Rattle.mode.proofs.Totals.{block-total}
 
 block-sum : (Ts : List (List ℕ)) → AllBlocks Ts → Block (sum Ts)

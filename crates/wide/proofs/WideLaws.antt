@@ -14,11 +14,13 @@ use Rattle.block.specs.Double.{double}
 use Rattle.block.proofs.XorLaws.{length-⊕}
 use Rattle.block.proofs.BlockLaws.{Sized, sized-blocks, length-blocks, first-block, first-rest, length-rest}
 use Rattle.block.proofs.BlockLaws.{length-join, full-join, rest-join, blocks-of, on-join}
+use Rattle.field.specs.Masks.{masked}
+use Rattle.field.proofs.MaskLaws.{sized-masked}
 use Rattle.mode.specs.Wide.{enter, total, padded, mask, isShort, middle, MP, MM, MC1, M1, Cm, CCCs, CCC1, wideOn, wide}
 use Rattle.mode.proofs.ShortBlock.{length-Cm}
 use Rattle.mode.proofs.Lengths.{length-enter}
-use Rattle.wide.specs.Passes.{masked, totalOf, mixedOn, mixed}
-use Rattle.wide.proofs.PassLaws.{sized-masked, enter-masked, leave-masked}
+use Rattle.wide.specs.Passes.{totalOf, mixedOn, mixed}
+use Rattle.wide.proofs.PassLaws.{enter-masked, leave-masked}
 use Rattle.wide.proofs.MixLaws.{length-ccc}
 use Rattle.wide.proofs.ShortLaws.{shorted}
 

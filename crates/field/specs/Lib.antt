@@ -1,0 +1,2 @@
+-- The masks of a text's blocks.
+pub mod Masks

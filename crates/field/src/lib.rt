@@ -1,0 +1,7 @@
+// The field of 2^128 elements (IEEE 1619-2007, 5.2; 000, 5.1), an element as a block: byte 0 the low end, alpha the element 2, by which `block::doubled`
+// multiplies. Modes mask block j of a text by an element times alpha^j.
+
+// The masks of all full blocks of a slice.
+mod masks;
+
+pub use masks::mask;
