@@ -146,6 +146,10 @@ abbrev pub Sized : List (List ℕ) → Type 0
 Sized [] = Unit {0}
 Sized (b ∷ bs) = (length b ≡ 16) × Sized bs
 
+pub sized-map : (f : List ℕ → List ℕ) → ((x : List ℕ) → length (f x) ≡ 16) → (bs : List (List ℕ)) → Sized (map f bs)
+sized-map f size [] = tt
+sized-map f size (b ∷ bs) = (size b, sized-map f size bs)
+
 pub blocks-join : (bs : List (List ℕ)) (s : List ℕ) → Sized bs → blocks (length bs) (join bs ++ s) ≡ bs
 unfolding blocks join
 blocks-join [] s h = refl

@@ -61,7 +61,7 @@ module _ (f g : List ℕ → List ℕ) (u : Undoes f g) where
   xtsBlock-undone {T} {P} hT hP =
       ap (λ (x : List ℕ). g x ⊕ T) (⊕-undo (f (P ⊕ T)) T) ∙ ap (λ (x : List ℕ). x ⊕ T) (u .back (block-⊕ hP hT)) ∙ ⊕-undo P T
 
-  all-xtsBlocks : {T : List ℕ} → Block T → (Ps : List (List ℕ)) → AllBlocks Ps → AllBlocks (xtsBlocks f T Ps)
+  pub all-xtsBlocks : {T : List ℕ} → Block T → (Ps : List (List ℕ)) → AllBlocks Ps → AllBlocks (xtsBlocks f T Ps)
   unfolding xtsBlocks
   all-xtsBlocks hT [] k = tt
   all-xtsBlocks {T} hT (P ∷ Ps) k = (block-xtsBlock hT (k .0), all-xtsBlocks (block-double T) Ps (k .1))
