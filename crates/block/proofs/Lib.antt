@@ -7,6 +7,7 @@ pub mod XorLaws
 pub mod BlockLaws
 pub mod ArrayBytes
 pub mod DoubleLaws
+pub mod DoubleSum
 pub mod PadLaws
 pub mod RowLaws
 pub mod PartLaws
