@@ -8,6 +8,7 @@ pub mod BlockLaws
 pub mod AllBlocks
 pub mod ArrayBytes
 pub mod DoubleLaws
+pub mod DoubleSum
 pub mod PadLaws
 pub mod RowLaws
 pub mod PartLaws
