@@ -3,8 +3,10 @@
 use mathlib.Core.Bool.{Bool, cond}
 use mathlib.Core.Path.{_≡_, sym, _∙_}
 use mathlib.Core.List.{List}
-use Prim.Native.Nat.{ℕ}
+use Prim.Native.Nat.{ℕ, _*_}
 use lib.Dec.{eqb}
+use lib.ListN.{length}
+use Rattle.block.specs.Blocks.{blockAt}
 use Rattle.aes.specs.Calls.{number, afterwards}
 use Rattle.eme2.specs.Transform as eme2
 use Rattle.xts.specs.Xts as xts
@@ -26,7 +28,7 @@ eme2-determined back k ad m n n′ s s′ p q = (p .0 ∙ sym (q .0), p .1 ∙ s
 
 -- lagunedo_xts_encipher, and with `back` lagunedo_xts_decipher
 abbrev pub XtsCalled : (back : Bool) (k : List ℕ) (i : ℕ) (u : List ℕ) (n : ℕ) (u′ : List ℕ) → Type 0
-XtsCalled back k i u n u′ = (n ≡ xts.number k u) × (u′ ≡ xts.afterwards back k i u)
+XtsCalled back k i u n u′ = (n ≡ xts.number (length k) (length u)) × (u′ ≡ xts.afterwards back k i u)
 
 pub xts-determined : (back : Bool) (k : List ℕ) (i : ℕ) (u : List ℕ) (n n′ : ℕ) (s s′ : List ℕ)
     → XtsCalled back k i u n s → XtsCalled back k i u n′ s′ → (n ≡ n′) × (s ≡ s′)
@@ -34,7 +36,9 @@ xts-determined back k i u n n′ s s′ p q = (p .0 ∙ sym (q .0), p .1 ∙ sym
 
 -- lagunedo_xts_block: block j of the unit u to the 16 bytes b, which stay if the call is refused
 abbrev pub XtsBlockCalled : (k : List ℕ) (i : ℕ) (u : List ℕ) (j : ℕ) (b : List ℕ) (n : ℕ) (b′ : List ℕ) → Type 0
-XtsBlockCalled k i u j b n b′ = (n ≡ xts.blockNumber k u j) × (b′ ≡ cond (eqb (xts.blockNumber k u j) 0) (xts.blockOf k i u j) b)
+XtsBlockCalled k i u j b n b′ =
+    (n ≡ xts.blockNumber (length k) (length u) j)
+    × (b′ ≡ cond (eqb (xts.blockNumber (length k) (length u) j) 0) (xts.blockUnder k i j (blockAt u (16 * j))) b)
 
 pub xts-block-determined : (k : List ℕ) (i : ℕ) (u : List ℕ) (j : ℕ) (b : List ℕ) (n n′ : ℕ) (s s′ : List ℕ)
     → XtsBlockCalled k i u j b n s → XtsBlockCalled k i u j b n′ s′ → (n ≡ n′) × (s ≡ s′)

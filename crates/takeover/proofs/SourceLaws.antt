@@ -1,16 +1,14 @@
--- What a conversion comes to, by the tests and by the answer of the deciphering call; and that a text that is too long is refused by its length alone.
+-- What a conversion comes to, by the answer of its tests; and that a text that is too long is refused by its length alone.
 -- Assumes nothing.
-use mathlib.Core.Path.{_≡_, refl, sym, ap, ap₂, _∙_}
-use mathlib.Core.Bool.{Bool, true, false, cond, not, _||_, or-true}
+use mathlib.Core.Path.{_≡_, refl, sym, ap, _∙_}
+use mathlib.Core.Bool.{Bool, true, false, cond, not}
 use mathlib.Core.List.{List}
-use Prim.Native.Nat.{ℕ, _≤_, _<_}
+use Prim.Native.Nat.{ℕ, _<_}
 use native.Mathlib.Omega.{arith}
-use borrow.Author.Tests.{lt-ltb, le-ltb}
-use lib.Dec.{eqb, ltb}
+use lib.Dec.{eqb}
 use lib.ListN.{length}
 use Rattle.numbers.specs.declared.Answer.{Answer}
 use Rattle.numbers.specs.declared.Answer.the-variants as answer
-use Rattle.numbers.specs.declared.Refusal.{Refusal}
 use Rattle.numbers.specs.declared.Refusal.the-variants.{XtsKeyLength, UnitLength}
 use Rattle.numbers.specs.Numbers.{paper, answerPaper, paper-apart}
 use Rattle.records.specs.Record.{textMost}
@@ -18,60 +16,44 @@ use Rattle.plans.specs.declared.Plan.{Plan}
 use Rattle.plans.specs.declared.Plan.the-variants.{Refuse, At}
 use Rattle.plans.specs.Plans.{addPlan}
 use Rattle.plans.proofs.PlanLaws.{add-says, add-by-length}
-use Rattle.store.specs.declared.Stored.{Stored}
 use Rattle.store.specs.Calls.{addAnswer, addStore}
 use Rattle.store.specs.Conversions.{Source, refuses, gives}
 use Rattle.xts.specs.Xts.{keyTaken, badUnit, number, xts, afterwards}
 use Rattle.takeover.specs.Sources.{xtsSource}
 
--- ---- by the tests
+-- ---- by the answer of the tests
+
+-- what a conversion comes to, with the text t if its tests refuse nothing
+abbrev pub comesTo : Answer → List ℕ → Source
+comesTo answer.Done t = gives t
+comesTo (answer.Refused x) t = refuses x
+
+abbrev answered : Bool → Bool → Answer
+answered t b = cond (not t) (answer.Refused XtsKeyLength) (cond b (answer.Refused UnitLength) answer.Done)
+
+by-tests : (t b : Bool) (x : List ℕ) → cond (not t) (refuses XtsKeyLength) (cond b (refuses UnitLength) (gives x)) ≡ comesTo (answered t b) x
+by-tests true true x = refl
+by-tests true false x = refl
+by-tests false b x = refl
+
+paper-answered : (t b : Bool) → cond (not t) (paper XtsKeyLength) (cond b (paper UnitLength) 0) ≡ answerPaper (answered t b)
+paper-answered true true = refl
+paper-answered true false = refl
+paper-answered false b = refl
 
 module _ (k : List ℕ) (i : ℕ) (u : List ℕ) where
-  by-tests : (t b : Bool) → keyTaken k ≡ t → badUnit u ≡ b
-      → xtsSource k i u ≡ cond (not t) (refuses XtsKeyLength) (cond b (refuses UnitLength) (gives (xts true k i u)))
-  unfolding xtsSource
-  by-tests t b p q = ap₂ (λ (x y : Bool). cond (not x) (refuses XtsKeyLength) (cond y (refuses UnitLength) (gives (xts true k i u)))) p q
+  pub source-answer : (a : Answer) → answerPaper a ≡ number (length k) (length u) → xtsSource k i u ≡ comesTo a (xts true k i u)
+  unfolding xtsSource number
+  source-answer a e =
+      let t : Bool = keyTaken (length k) in
+      let b : Bool = badUnit (length u) in
+      by-tests t b (xts true k i u)
+      ∙ ap (λ (y : Answer). comesTo y (xts true k i u)) (sym (paper-apart a (answered t b) (e ∙ paper-answered t b)))
 
-  pub source-key : keyTaken k ≡ false → xtsSource k i u ≡ refuses XtsKeyLength
-  source-key p = by-tests false (badUnit u) p refl
-
-  pub source-unit : keyTaken k ≡ true → 65536 < length u → xtsSource k i u ≡ refuses UnitLength
-  unfolding badUnit
-  source-unit p h = by-tests true true p (ap (λ (t : Bool). ltb (length u) 16 || t) (lt-ltb 65536 (length u) h) ∙ or-true (ltb (length u) 16))
-
-  pub source-text : keyTaken k ≡ true → 16 ≤ length u → length u ≤ 65536 → xtsSource k i u ≡ gives (xts true k i u)
-  unfolding badUnit
-  source-text p h l = by-tests true false p (ap₂ (λ (x y : Bool). x || y) (le-ltb (length u) 16 h) (le-ltb 65536 (length u) l))
-
-  -- ---- by the answer of the call that deciphers, and the unit afterwards
-
-  abbrev answered : Bool → Bool → Answer
-  answered t b = cond (not t) (answer.Refused XtsKeyLength) (cond b (answer.Refused UnitLength) answer.Done)
-
-  abbrev comesTo : Answer → List ℕ → Source
-  comesTo answer.Done t = gives t
-  comesTo (answer.Refused x) t = refuses x
-
-  number-answered : (t b : Bool) → keyTaken k ≡ t → badUnit u ≡ b → number k u ≡ answerPaper (answered t b)
-  unfolding number
-  number-answered true true p q = ap₂ (λ (x y : Bool). cond (not x) (paper XtsKeyLength) (cond y (paper UnitLength) 0)) p q
-  number-answered true false p q = ap₂ (λ (x y : Bool). cond (not x) (paper XtsKeyLength) (cond y (paper UnitLength) 0)) p q
-  number-answered false b p q = ap₂ (λ (x y : Bool). cond (not x) (paper XtsKeyLength) (cond y (paper UnitLength) 0)) p q
-
-  afterwards-done : number k u ≡ 0 → afterwards true k i u ≡ xts true k i u
+  -- and then the call that deciphers leaves the text
+  pub deciphered : number (length k) (length u) ≡ 0 → afterwards true k i u ≡ xts true k i u
   unfolding afterwards
-  afterwards-done e = ap (λ (n : ℕ). cond (eqb n 0) (xts true k i u) u) e
-
-  by-answer : (t b : Bool) → keyTaken k ≡ t → badUnit u ≡ b → xtsSource k i u ≡ comesTo (answered t b) (afterwards true k i u)
-  by-answer true true p q = by-tests true true p q
-  by-answer true false p q = by-tests true false p q ∙ ap gives (sym (afterwards-done (number-answered true false p q)))
-  by-answer false b p q = by-tests false b p q
-
-  pub source-answer : (a : Answer) (t : List ℕ) → answerPaper a ≡ number k u → t ≡ afterwards true k i u → xtsSource k i u ≡ comesTo a t
-  source-answer a t p q =
-      let tested : a ≡ answered (keyTaken k) (badUnit u) =
-      paper-apart a (answered (keyTaken k) (badUnit u)) (p ∙ number-answered (keyTaken k) (badUnit u) refl refl) in
-      by-answer (keyTaken k) (badUnit u) refl refl ∙ ap₂ comesTo (sym tested) (sym q)
+  deciphered e = ap (λ (n : ℕ). cond (eqb n 0) (xts true k i u) u) e
 
 -- ---- a text that is too long
 

@@ -3,13 +3,13 @@
 // Contracts cite what the conversion comes to (`specs/Sources.antt`), a refusal of its own or a text, and what the store's calls say of that
 // (`store`, specs/Conversions).
 ghost use mathlib.Core.Path.{_≡_};
-ghost use Prim.Native.Nat.{_≤_, _<_};
+ghost use Prim.Native.Nat.{_≤_};
 ghost use lib.ListN.{length};
 ghost use Rattle.records.specs.Record.{textMost};
 ghost use Rattle.store.specs.Conversions.{ConvertCalled};
+ghost use Rattle.xts.specs.Xts.{number};
 ghost use Rattle.takeover.specs.Sources.{xtsSource};
 use numbers::Answer;
-use numbers::Refusal;
 use records::TEXT_MOST;
 use store::Stored;
 use store::add;
@@ -28,37 +28,20 @@ pub fn add_xts(
     ensures { λ a. ⌜ ConvertCalled (now (old .entry)) (now (new .entry)) (now (store .entry)) sheet
         (xtsSource (now (xts_key .entry)) number (now (unit .entry))) a (now (store .exit)) ⌝ }
 {
-    if unit.len() > TEXT_MOST {
-        return longer(xts_key, number, unit, old, new, store, sheet);
+    let l = unit.len();
+    match xts::tested(xts_key.len(), l) {
+        Answer::Refused(x) => Stored::Refused(x),
+        Answer::Done => {
+            if l > TEXT_MOST {
+                return add(old, new, store, sheet, unit);
+            }
+            let mut room = [0u8; TEXT_MOST];
+            add_in(xts_key, number, unit, old, new, store, sheet, &mut room)
+        }
     }
-    let mut room = [0u8; TEXT_MOST];
-    add_in(xts_key, number, unit, old, new, store, sheet, &mut room)
 }
 
-// A unit longer than any text.
-fn longer(
-    xts_key: &[u8],
-    number: u64,
-    unit: &[u8],
-    old: &[u8],
-    new: &[u8],
-    store: &mut [u8],
-    sheet: u32,
-) -> Stored
-    requires { ⌜ textMost < length (now unit) ⌝ }
-    ensures { λ a. ⌜ ConvertCalled (now (old .entry)) (now (new .entry)) (now (store .entry)) sheet
-        (xtsSource (now (xts_key .entry)) number (now (unit .entry))) a (now (store .exit)) ⌝ }
-{
-    if !xts::key_taken(xts_key) {
-        return Stored::Refused(Refusal::XtsKeyLength);
-    }
-    if unit.len() > 65536 {
-        return Stored::Refused(Refusal::UnitLength);
-    }
-    add(old, new, store, sheet, unit)
-}
-
-// A unit that may be a text, with room for it lent.
+// A unit that is not refused and may be a text, with room for it lent.
 fn add_in(
     xts_key: &[u8],
     number: u64,
@@ -69,14 +52,12 @@ fn add_in(
     sheet: u32,
     room: &mut [u8],
 ) -> Stored
-    requires { ⌜ (length (now unit) ≤ textMost) × (length (now room) ≡ textMost) ⌝ }
+    requires { ⌜ (number (length (now xts_key)) (length (now unit)) ≡ 0) × (length (now unit) ≤ textMost) × (length (now room) ≡ textMost) ⌝ }
     ensures { λ a. ⌜ ConvertCalled (now (old .entry)) (now (new .entry)) (now (store .entry)) sheet
         (xtsSource (now (xts_key .entry)) number (now (unit .entry))) a (now (store .exit)) ⌝ }
 {
     let l = unit.len();
     block::copy(room, 0, unit);
-    match xts::decipher(xts_key, number, &mut room[0..l]) {
-        Answer::Refused(x) => Stored::Refused(x),
-        Answer::Done => add(old, new, store, sheet, &room[0..l]),
-    }
+    xts::decipher(xts_key, number, &mut room[0..l]);
+    add(old, new, store, sheet, &room[0..l])
 }
