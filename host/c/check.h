@@ -35,6 +35,7 @@ uint32_t digest(const uint8_t *bytes, size_t length);
 void test_aes(void);
 void test_eme2(void);
 void test_store(void);
+void test_revisions(void);
 void test_refusals(void);
 void test_job(void);
 void test_stack(void);

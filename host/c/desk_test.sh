@@ -92,5 +92,5 @@ refuses() { # NUMBER COMMAND STORE WORDS..
     check "no copy is made of $3" [ ! -e "$3.desk-before" ]
 }
 
-for part in commands refusals statuses usage files fingerprint rekey stops changeover locks terminal; do . "$here/desk/test/$part.sh"; done
+for part in commands revisions earlier refusals statuses usage files fingerprint rekey stops changeover locks terminal; do . "$here/desk/test/$part.sh"; done
 all_passed desk

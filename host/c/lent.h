@@ -114,11 +114,18 @@ void call_check(int holds, const char *what, const struct call *call);
  */
 void expect(const struct call *call, uint32_t number, const char *what);
 
+/* What a read is to leave: a text made from the seed, and two numbers. */
+void want_read(size_t length, uint32_t seed, uint32_t revision);
+
+/* One step at the place: its outcome, and the place moved on unless done. */
+void step_at(enum call_name name, uint64_t place, uint32_t outcome,
+             const char *what);
+
 /*
  * The ways in which a used slot is made unsound, one field at a time. In both
  * rooms, and the slot's text is 40 bytes long.
  */
-enum { FIELD_FLAWS = 8, FLAWS = 18 };
+enum { FIELD_FLAWS = 8, FLAWS = 17 };
 
 void flaw(size_t slot, size_t which);
 

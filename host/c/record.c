@@ -1,6 +1,6 @@
 /*
  * Where the fields of a lead stand, and how their numbers are written: 01,
- * "The store".
+ * "The store", with the revision's two halves of 02, order 1.
  */
 
 #include <stddef.h>
@@ -12,8 +12,9 @@
 enum {
     SHEET_AT = 0,
     SHEET_SIZE = 4,
-    REVISION_AT = 4,
-    REVISION_SIZE = 2,
+    REVISION_LOW_AT = 4,
+    REVISION_HIGH_AT = 10,
+    REVISION_HALF = 2,
     MARK_AT = 6,
     LENGTH_AT = 8,
     LENGTH_SIZE = 2
@@ -41,7 +42,8 @@ struct lead lead_read(const uint8_t *record)
     struct lead lead;
 
     lead.sheet = number_at(record + SHEET_AT, SHEET_SIZE);
-    lead.revision = number_at(record + REVISION_AT, REVISION_SIZE);
+    lead.revision = number_at(record + REVISION_HIGH_AT, REVISION_HALF) << 16 |
+                    number_at(record + REVISION_LOW_AT, REVISION_HALF);
     lead.mark = record[MARK_AT];
     lead.length = number_at(record + LENGTH_AT, LENGTH_SIZE);
     return lead;
@@ -51,7 +53,8 @@ void lead_write(uint8_t *record, struct lead lead)
 {
     memset(record, 0, LAGUNEDO_LEAD_SIZE);
     put_number(record + SHEET_AT, lead.sheet, SHEET_SIZE);
-    put_number(record + REVISION_AT, lead.revision, REVISION_SIZE);
+    put_number(record + REVISION_LOW_AT, lead.revision, REVISION_HALF);
+    put_number(record + REVISION_HIGH_AT, lead.revision >> 16, REVISION_HALF);
     record[MARK_AT] = lead.mark;
     put_number(record + LENGTH_AT, lead.length, LENGTH_SIZE);
 }

@@ -1,6 +1,6 @@
 /*
- * The lead of a record, as 01 tables it. Only record.c knows at which byte a
- * field stands.
+ * The lead of a record, as lagunedo.h tables it. Only record.c knows at which
+ * byte a field stands.
  */
 
 #ifndef RECORD_H
@@ -18,7 +18,7 @@ struct lead {
  * Bytes of a lead that are no field and have to be 0: one between the mark and
  * the length, and those from LEAD_END on.
  */
-enum { LEAD_GAP = 7, LEAD_END = 10 };
+enum { LEAD_GAP = 7, LEAD_END = 12 };
 
 struct lead lead_read(const uint8_t *record);
 

@@ -58,6 +58,7 @@ int main(void)
     test_aes();
     test_eme2();
     test_store();
+    test_revisions();
     test_refusals();
     test_job();
     test_stack();

@@ -10,25 +10,6 @@
 
 enum { SLOTS = 14, COPIES = 2 };
 
-static void put_place(uint64_t place)
-{
-    now.job[JOB].place = wanted.job[JOB].place = place;
-}
-
-/* One step at the place: its outcome, and the place moved on unless done. */
-static void step_at(enum call_name name, uint64_t place, uint32_t outcome,
-                    const char *what)
-{
-    struct call step = call_of(name);
-
-    put_place(place);
-    step.by_address = place % 2 == 0;
-    wanted.word[OUTCOME] = outcome;
-    if (outcome != LAGUNEDO_STEP_DONE)
-        wanted.job[JOB].place = place + 1;
-    expect(&step, LAGUNEDO_DONE, what);
-}
-
 /* At or past the number of slots, however far. */
 static void past_the_end(enum call_name name)
 {
@@ -81,7 +62,8 @@ static void convert(enum call_name name, struct sheet sheet, size_t old_key,
 static void converts(enum call_name name)
 {
     static const size_t lengths[] = { 16, 17, 48, 2064, 2065, 2096 };
-    static const uint32_t revisions[] = { 1, 2, 255, 256, 65534, 65535 };
+    static const uint32_t revisions[] = { 1,     2,     255,
+                                          65535, 65536, 0xffffffffu };
     struct sheet sheet = { 0x80000001u, 0, 0, 0, 302 };
     size_t i, k;
 
@@ -147,7 +129,7 @@ static const struct sheet sheets[SLOTS] = {
     { 400, 3, LAGUNEDO_MARK_OLD_KEY, 2096, 401 },
     { 0, 0, 0, 0, 0 },
     { 402, 1, LAGUNEDO_MARK_CLEAR, 16, 402 },
-    { 403, 65535, LAGUNEDO_MARK_OLD_KEY, 17, 403 },
+    { 403, 0xffffffffu, LAGUNEDO_MARK_OLD_KEY, 17, 403 },
     { 0, 0, 0, 0, 0 },
     { 405, 9, LAGUNEDO_MARK_NEW_KEY, 100, 405 },
     { 406, 2, LAGUNEDO_MARK_OLD_KEY, 40, 406 },

@@ -232,6 +232,26 @@ void expect(const struct call *call, uint32_t number, const char *what)
     memcpy(now.bytes, wanted.bytes, compared);
 }
 
+void want_read(size_t length, uint32_t seed, uint32_t revision)
+{
+    fill(wanted.bytes + TEXT_AT, length, seed);
+    wanted.word[LENGTH] = (uint32_t)length;
+    wanted.word[REVISION] = revision;
+}
+
+void step_at(enum call_name name, uint64_t place, uint32_t outcome,
+             const char *what)
+{
+    struct call step = call_of(name);
+
+    now.job[JOB].place = wanted.job[JOB].place = place;
+    step.by_address = place % 2 == 0;
+    wanted.word[OUTCOME] = outcome;
+    if (outcome != LAGUNEDO_STEP_DONE)
+        wanted.job[JOB].place = place + 1;
+    expect(&step, LAGUNEDO_DONE, what);
+}
+
 /* The text of the slot ends here, and every byte behind it is 0. */
 static void cut(size_t slot, size_t length)
 {
@@ -279,8 +299,7 @@ void flaw(size_t slot, size_t which)
         { LEAD_END, 1 },
         { LEAD_END + 1, 1 },
         { LEAD_END + 2, 1 },
-        { LEAD_END + 4, 1 },
-        { LEAD_END + 5, 64 },  /* the last of the lead */
+        { LEAD_END + 3, 64 },  /* the last of the lead */
         { 56, 1 },             /* right behind the text */
         { 1000, 16 },          /* far behind it */
         { 2111, 128 }          /* the last byte of the slot */

@@ -79,10 +79,10 @@ static void spoil_sheet(struct call *call, size_t variant)
 /* The sheet asked for is at the last revision, and it is named. */
 static void spoil_last(struct call *call)
 {
-    struct sheet last = { ASKED, 65535, LAGUNEDO_MARK_OLD_KEY, 40, 201 };
+    struct sheet last = { ASKED, 0xffffffffu, LAGUNEDO_MARK_OLD_KEY, 40, 201 };
 
     hold_sheet(ASKED_SLOT, last);
-    call->seen = 65535;
+    call->seen = 0xffffffffu;
 }
 
 /* Every slot is used. */

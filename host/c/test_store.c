@@ -1,7 +1,8 @@
 /*
  * Check, read, add, revise and remove where they do their work: what they
  * answer, the slot they write, and that every other byte stays. A sheet is
- * followed from its adding to its removal, with each call made again.
+ * followed from its adding to its removal, with each call made again. Which
+ * revisions there are is in test_revisions.c.
  */
 
 #include <string.h>
@@ -21,13 +22,6 @@ static void want_counts(uint32_t used, uint32_t free_slots, uint32_t clear,
     wanted.word[CLEAR] = clear;
     wanted.word[OLD_KEY] = old_key;
     wanted.word[NEW_KEY] = new_key;
-}
-
-static void want_read(size_t length, uint32_t seed, uint32_t revision)
-{
-    fill(wanted.bytes + TEXT_AT, length, seed);
-    wanted.word[LENGTH] = (uint32_t)length;
-    wanted.word[REVISION] = revision;
 }
 
 /* 01, "Listing": the store of two slots given there byte for byte. */
@@ -169,7 +163,8 @@ static void read_into(struct sheet sheet, size_t old_key, size_t new_key)
 static void reads(void)
 {
     static const size_t lengths[] = { 16, 17, 31, 32, 33, 2095, 2096 };
-    static const uint32_t revisions[] = { 1, 2, 255, 256, 65534, 65535, 770 };
+    static const uint32_t revisions[] = { 1,     2,     255,        256,
+                                          65535, 65536, 0x04030201u };
     struct sheet sheet = { 0x04030201u, 0, 0, 0, 0 };
     size_t i, k;
 
@@ -288,76 +283,9 @@ static void revise_from(uint8_t mark, size_t from, size_t to, size_t old_key,
     expect(&revise, LAGUNEDO_DONE, "revised to another length");
 }
 
-/* The revision named is compared as a number of 32 bits. */
-static void revise_seen(uint32_t stored)
-{
-    const uint32_t others[] = { 0,           stored - 1,       stored + 1,
-                                stored << 8, stored + 65536,   stored + 131072,
-                                0xffffffffu, stored | 1u << 31 };
-    struct sheet sheet = { 78, 0, LAGUNEDO_MARK_OLD_KEY, 50, 63 };
-    struct call revise;
-    size_t i;
-
-    sheet.revision = stored;
-    lend(48, 64, 2);
-    hold_sheet(0, sheet);
-    revise = call_of(REVISE);
-    revise.sheet = 78;
-    revise.text = 45;
-    hold_text(45, 64);
-    for (i = 0; i < sizeof others / sizeof others[0]; i++) {
-        revise.seen = others[i];
-        expect(&revise, LAGUNEDO_OTHER_REVISION, "another revision named");
-    }
-    revise.seen = stored;
-    if (stored < 65535) {
-        sheet.revision = stored + 1;
-        sheet.mark = LAGUNEDO_MARK_NEW_KEY;
-        sheet.length = 45;
-        sheet.seed = 64;
-        put_sheet(&wanted, 0, sheet);
-        wanted.word[REVISION] = stored + 1;
-        expect(&revise, LAGUNEDO_DONE, "the stored revision named");
-        expect(&revise, LAGUNEDO_OTHER_REVISION, "revised again");
-    } else {
-        expect(&revise, LAGUNEDO_LAST_REVISION, "no revision after the last");
-        expect(&revise, LAGUNEDO_LAST_REVISION, "no revision after the last");
-    }
-}
-
-/* 65,534, then 65,535, then no more, on one sheet. */
-static void revise_to_the_last(void)
-{
-    struct sheet sheet = { 79, 65534, LAGUNEDO_MARK_NEW_KEY, 16, 65 };
-    struct call revise;
-
-    lend(64, 64, 1);
-    hold_sheet(0, sheet);
-    revise = call_of(REVISE);
-    revise.sheet = 79;
-    revise.seen = 65534;
-    revise.text = 16;
-    hold_text(16, 66);
-
-    sheet.revision = 65535;
-    sheet.seed = 66;
-    put_sheet(&wanted, 0, sheet);
-    wanted.word[REVISION] = 65535;
-    expect(&revise, LAGUNEDO_DONE, "from revision 65,534");
-    expect(&revise, LAGUNEDO_OTHER_REVISION, "65,534 named again");
-    revise.seen = 65535;
-    expect(&revise, LAGUNEDO_LAST_REVISION, "from revision 65,535");
-    revise.seen = 65536;
-    expect(&revise, LAGUNEDO_OTHER_REVISION, "65,536 named");
-    revise.seen = 0;
-    expect(&revise, LAGUNEDO_OTHER_REVISION, "0 named");
-}
-
 static void revises(void)
 {
     static const size_t lengths[] = { 16, 17, 500, 2096 };
-    static const uint32_t revisions[] = { 1,   2,     254,   255,
-                                          256, 32768, 65534, 65535 };
     uint8_t mark;
     size_t i, j;
 
@@ -366,9 +294,6 @@ static void revises(void)
             for (j = 0; j < 4; j++)
                 revise_from(mark, lengths[i], lengths[j], key_lengths[j][0],
                             key_lengths[j][1]);
-    for (i = 0; i < sizeof revisions / sizeof revisions[0]; i++)
-        revise_seen(revisions[i]);
-    revise_to_the_last();
 }
 
 /* Numbers alike but for one byte are different sheets. */
@@ -511,8 +436,8 @@ static void unsound(size_t which, uint8_t mark)
 static void sound(void)
 {
     static const struct sheet sheets[] = {
-        { 1, 1, 0, 16, 1 },           { 0xffffffffu, 65535, 2, 2096, 2 },
-        { 2, 256, 1, 17, 3 },         { 1u << 24, 65535, 0, 2096, 4 },
+        { 1, 1, 0, 16, 1 },           { 0xffffffffu, 0xffffffffu, 2, 2096, 2 },
+        { 2, 65536, 1, 17, 3 },       { 1u << 24, 65535, 0, 2096, 4 },
         { 65536, 1, 1, 2095, 5 },     { 256, 255, 2, 16, 6 }
     };
     struct call check;

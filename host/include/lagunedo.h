@@ -4,8 +4,9 @@
  * This header is the manual. It holds AES-128 and AES-256, one block at a
  * time, as FIPS 197 defines them; EME2-AES, which enciphers whole messages,
  * as source document 000 defines it; and the sheet store with its rekeying
- * job, as 01 defines them. 000 is "The EME2-AES Transform", and 01 "The scope
- * of work and its rules".
+ * job, as 01 defines them, with revisions as order 1 of 02 has them. 000 is
+ * "The EME2-AES Transform", 01 "The scope of work and its rules", and 02
+ * "Requested changes after the base".
  *
  * It needs C99 or C++11, or a later version of either, and x86-64 Linux, for
  * which the library is compiled.
@@ -78,8 +79,9 @@ extern "C" {
 /*
  * The numbers returned
  *
- * 1 to 14 are those of 01, and none changes its meaning. 14 is never returned,
- * since deciphering keeps the length. 0 and 256 are no refusals.
+ * 1 to 14 are those of 01, and none changes its meaning; which revision is the
+ * last, for 9, is 02's to say. 14 is never returned, since deciphering keeps
+ * the length. 0 and 256 are no refusals.
  *
  * LAGUNEDO_REFUSALS and LAGUNEDO_NUMBERS are the one table of their names and
  * meanings: the macro X that they are given gets a row after the other.
@@ -97,7 +99,8 @@ extern "C" {
     X(LAGUNEDO_NO_SHEET, 7, "no slot has the sheet number") \
     X(LAGUNEDO_OTHER_REVISION, 8, \
       "the revision named is not the stored one") \
-    X(LAGUNEDO_LAST_REVISION, 9, "the stored revision is 65,535, the last") \
+    X(LAGUNEDO_LAST_REVISION, 9, \
+      "the stored revision is 4,294,967,295, the last") \
     X(LAGUNEDO_NO_FREE_SLOT, 10, "no slot is free: none has sheet number 0") \
     X(LAGUNEDO_SHEET_PRESENT, 11, "the sheet number is already in a slot") \
     X(LAGUNEDO_SLOT_UNSOUND, 12, "the slot found is unsound") \
@@ -248,12 +251,17 @@ uint32_t lagunedo_eme2_decipher(const uint8_t *key, size_t key_length,
  *
  *   bytes    field
  *   0-3      sheet number; 0 means the slot is free
- *   4-5      revision, 1 to 65,535
+ *   4-5      low half of the revision
  *   6        mark: 0 clear, 1 old key, 2 new key
  *   7        0
  *   8-9      text length, 16 to 2,096
- *   10-15    0
+ *   10-11    high half of the revision
+ *   12-15    0
  *   16-2111  text, zeros after its length
+ *
+ * The revision is its low half plus 65,536 times its high half, 1 to
+ * 4,294,967,295. What was sound to libraries that knew the low half alone, and
+ * asked for 0 in bytes 10 to 15, is sound and means what it meant.
  *
  * Bytes 0 to 15 are the lead. Under mark 1 or 2 the stored text is enciphered
  * with EME2-AES under that key with the whole lead, as stored, for associated
@@ -436,8 +444,8 @@ uint32_t lagunedo_add(const uint8_t *old_key, size_t old_key_length,
  *                            written
  *   sheet                    the sheet number, not 0
  *   seen                     the revision that the operator saw; any number
- *                            may be given, and one above 65,535 is never the
- *                            stored one
+ *                            may be given, it is compared whole, and 0 is
+ *                            never the stored one
  *   text, text_length        the new text, 16 to 2,096 bytes; read
  *   revision                 the revision now stored, seen + 1; written
  *
@@ -451,7 +459,7 @@ uint32_t lagunedo_add(const uint8_t *old_key, size_t old_key_length,
  *   LAGUNEDO_NO_SHEET        no slot has the sheet number
  *   LAGUNEDO_SLOT_UNSOUND    the lowest slot that has it is unsound
  *   LAGUNEDO_OTHER_REVISION  seen is not the stored revision
- *   LAGUNEDO_LAST_REVISION   the stored revision is 65,535
+ *   LAGUNEDO_LAST_REVISION   the stored revision is 4,294,967,295
  *
  * The slot gets a revision one higher, mark 2 whatever its mark was, the new
  * text enciphered under the new key, and zeros after it. Every other slot is

@@ -9,7 +9,7 @@ printf '%064d' 4 >wrong.key
 stage() { # KEY MARK
     record s305 305 1 "$2" blue "$1.key"
     record s306 306 7 "$2" longest "$1.key"
-    record s307 307 65535 "$2" shortest "$1.key"
+    record s307 307 4294967295 "$2" shortest "$1.key"
     cat s305 free s306 s307 >"$1$2"
 }
 for key in a b c; do for mark in 1 2; do stage "$key" "$mark"; done; done

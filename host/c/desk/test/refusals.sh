@@ -84,17 +84,19 @@ refuses 7 revise refusing 306 1 $keys <blue
 refuses 7 remove refusing 306
 says "desk: refusing: refused with 7: no slot has the sheet number"
 
-# 8: older, newer, and equal to the stored revision only in its low 16 bits.
+# 8: older, newer, and equal to the stored revision only in its low half; then, where it has both halves, only in either.
 for seen in 0 1 3 65538 4294967295; do refuses 8 revise refusing 305 "$seen" $keys <blue; done
+record both 305 65538 2 blue new.key
+for seen in 2 65536 65537 131074 131073; do refuses 8 revise both 305 "$seen" $keys <blue; done
 says "refused with 8: the revision named is not the stored one"
 
 # 9: the last revision but one can be revised, the last cannot.
-record last 305 65534 1 blue old.key
+record last 305 4294967294 1 blue old.key
 cat last free >lasting
-gives 0 revise lasting 305 65534 $keys <dry
-prints "revision 65535"
-refuses 9 revise lasting 305 65535 $keys <dry
-says "refused with 9: the stored revision is 65,535, the last"
+gives 0 revise lasting 305 4294967294 $keys <dry
+prints "revision 4294967295"
+refuses 9 revise lasting 305 4294967295 $keys <dry
+says "refused with 9: the stored revision is 4,294,967,295, the last"
 
 # 10 and 11. In a full store a sheet that is there is refused with 11.
 gives 0 add lasting 306 $keys <blue

@@ -4,10 +4,10 @@
 record clear1 305 2 0 hold
 record old2 306 7 1 blue old.key
 record new4 308 1 2 dry new.key
-record old5 309 65535 1 longest old.key
+record old5 309 4294967295 1 longest old.key
 record to1 305 2 2 hold new.key
 record to2 306 7 2 blue new.key
-record to5 309 65535 2 longest new.key
+record to5 309 4294967295 2 longest new.key
 cat clear1 old2 free new4 old5 >mixed
 
 cp mixed one

@@ -147,7 +147,7 @@ fn draw_by_sheet(script: &mut Script, store: &[u8], drawn: &mut Drawn) {
     let found = leads.find(|lead| lead.sheet == call.sheet);
     let (revision, length) = found.map_or((0, 0), |lead| (lead.revision, lead.length));
     if call.what == Revise {
-        call.seen = seen(script, revision.into());
+        call.seen = seen(script, revision);
     }
     drawn.text = match call.what {
         Read => buffer(script, length.into()),
@@ -178,13 +178,17 @@ fn sheet(script: &mut Script, what: What, store: &[u8]) -> u32 {
     }
 }
 
-/// Mostly the stored one; its neighbours; one above every revision; any.
+/// Mostly the stored one; its neighbours; one that agrees with it in a half,
+/// either of them, or has the halves exchanged; any.
 fn seen(script: &mut Script, stored: u32) -> u32 {
     match script.byte() {
-        ..176 => stored,
-        176..192 => stored + 1,
-        192..208 => stored.wrapping_sub(1),
-        208..224 => stored + 65_536,
+        ..168 => stored,
+        168..184 => stored.wrapping_add(1),
+        184..200 => stored.wrapping_sub(1),
+        200..208 => stored.wrapping_add(65_536),
+        208..216 => stored & 0xffff,
+        216..224 => stored & !0xffff,
+        224..232 => stored.rotate_left(16),
         _ => script.number(4) as u32,
     }
 }

@@ -74,18 +74,21 @@ fn draw_slot(script: &mut Script, record: &mut [u8]) {
     }
 }
 
-/// Fields that are mostly as tabled; the text's own bytes may be any, since
-/// under a key any bytes are the encipherment of some text.
+/// Fields that are mostly as tabled, revisions small or beside an end of a half;
+/// the text's own bytes may be any, since under a key any bytes are the
+/// encipherment of some text.
 fn draw_used(script: &mut Script, record: &mut [u8]) {
     let sheet = match script.byte() {
         choice @ ..200 => u32::from(choice) % 7 + 1,
         _ => script.number(4) as u32,
     };
     let revision = match script.byte() {
-        choice @ ..160 => u16::from(choice) % 4 + 1,
-        160..200 => 65_535,
-        200..232 => 65_534,
-        _ => script.number(2) as u16,
+        choice @ ..128 => u32::from(choice) % 4 + 1,
+        choice @ ..184 => u32::MAX - u32::from(choice) % 3,
+        choice @ ..216 => 65_534 + u32::from(choice) % 4,
+        choice @ ..224 => (u32::from(choice) % 4) << 16,
+        choice @ ..240 => script.number(2) as u32 | (u32::from(choice) % 2) << 16,
+        _ => script.number(4) as u32,
     };
     let mark = match script.byte() {
         choice @ ..248 => choice % (NEW + 1),
@@ -96,7 +99,7 @@ fn draw_used(script: &mut Script, record: &mut [u8]) {
     Random::new(script.number(1)).fill(&mut record[LEAD..lead.text_end()]);
 }
 
-fn lead(sheet: u32, revision: u16, mark: u8, length: usize) -> Lead {
+fn lead(sheet: u32, revision: u32, mark: u8, length: usize) -> Lead {
     Lead {
         sheet,
         revision,

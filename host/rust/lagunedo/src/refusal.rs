@@ -56,8 +56,8 @@ refusals! {
         "No slot has the sheet number.";
     OtherRevision = 8, "the revision named is not the stored one",
         "The revision named is not the stored one, as it is if the sheet was revised since the operator read it.";
-    LastRevision = 9, "the stored revision is 65,535, the last",
-        "The stored revision is 65,535, so there is none after it.";
+    LastRevision = 9, "the stored revision is 4,294,967,295, the last",
+        "The stored revision is 4,294,967,295, so there is none after it.";
     NoFreeSlot = 10, "no slot is free: none has sheet number 0",
         "No slot is free.";
     SheetPresent = 11, "the sheet number is already in a slot",

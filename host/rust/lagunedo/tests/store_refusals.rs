@@ -23,7 +23,7 @@ const SLOT: usize = 2;
 const OTHERS: u32 = 100;
 
 /// The fields of a sheet of 20 bytes.
-fn sheet(sheet: u32, revision: u16, mark: u8) -> Lead {
+fn sheet(sheet: u32, revision: u32, mark: u8) -> Lead {
     Lead {
         sheet,
         revision,
@@ -95,10 +95,13 @@ fn spoil(call: &mut Call, memory: &mut Memory, number: u32, way: usize) {
                 change(store, slot, |lead| lead.sheet = number);
             }
         }
-        8 => call.seen = [call.seen + 1, call.seen - 1, call.seen + 65_536, 0][way],
+        8 => {
+            let change = [1, u32::MAX, 65_536, 0x8000_0000][way];
+            call.seen = call.seen.wrapping_add(change);
+        }
         9 => {
-            change(store, SLOT, |lead| lead.revision = 65_535);
-            call.seen = 65_535;
+            change(store, SLOT, |lead| lead.revision = 4_294_967_295);
+            call.seen = 4_294_967_295;
         }
         10 => change(store, 1, |lead| lead.sheet = OTHERS + 1),
         11 => change(store, SLOT, |lead| lead.sheet = SHEET),
@@ -250,7 +253,7 @@ fn buffers() {
 
 /// A byte of a slot with a text of 20 bytes that is not as tabled, and what
 /// it is changed to.
-const UNSOUND: [(usize, u8); 14] = [
+const UNSOUND: [(usize, u8); 15] = [
     (4, 0),
     (6, 3),
     (6, 128),
@@ -259,8 +262,9 @@ const UNSOUND: [(usize, u8); 14] = [
     (8, 0),
     (9, 9),
     (9, 255),
-    (10, 1),
+    (12, 1),
     (13, 16),
+    (14, 255),
     (15, 128),
     (36, 1),
     (1_000, 255),
@@ -292,7 +296,7 @@ fn unsound() {
                 .put(here);
                 here[at] = byte;
                 call.sheet = Lead::of(here).sheet;
-                call.seen = u32::from(Lead::of(here).revision);
+                call.seen = Lead::of(here).revision;
                 memory.place = slot as u64;
                 let name = || format!("slot {slot}, byte {at} is {byte}");
                 let (number, after) = agree(&call, &memory, n, &name);
@@ -316,7 +320,7 @@ fn unsound() {
 /// A free slot with a byte set: a fault for check alone.
 #[test]
 fn free_but_for_a_byte() {
-    for at in [4, 5, 6, 7, 8, 9, 10, 15, 16, 36, 1_000, 2_111] {
+    for at in [4, 5, 6, 7, 8, 9, 10, 11, 12, 15, 16, 36, 1_000, 2_111] {
         for (what, wanted, word) in [
             (What::Check, FAULT, 1),
             (What::Step, 0, 1),
@@ -390,32 +394,6 @@ fn lower_of_two() {
                 assert_eq!(after.text, memory.store[16..36]);
             }
         }
-    }
-}
-
-/// 01, both sides of each edge: revision 65,534 becomes 65,535, which is then
-/// the last. What is named is compared as a number, and so never cut down to
-/// 16 bits.
-#[test]
-fn last_revision() {
-    let (mut call, mut memory) = good(What::Revise, &mut Random::new(SEED));
-    change(&mut memory.store, SLOT, |lead| lead.revision = 65_534);
-    call.seen = 65_534;
-    let (number, after) = agree(&call, &memory, 0, &|| "65,534".to_owned());
-    assert_eq!((number, after.words[0]), (0, 65_535));
-    assert_eq!(Lead::of(&after.store[SLOT * RECORD..]).revision, 65_535);
-    for (seen, wanted) in [
-        (65_535, 9),
-        (65_534, 8),
-        (0, 8),
-        (65_536, 8),
-        (131_071, 8),
-        (u32::MAX, 8),
-    ] {
-        call.seen = seen;
-        let (number, kept) = agree(&call, &after, 0, &|| format!("seen {seen}"));
-        assert_eq!(number, wanted, "seen {seen}");
-        assert!(kept == after, "seen {seen}");
     }
 }
 

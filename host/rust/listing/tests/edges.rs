@@ -35,13 +35,64 @@ fn every_mark_in_31_slots() {
 
 /// Slot k of a store whose numbers of every size are all different.
 fn wide_slot(k: u8) -> Lead {
-    let pick = |from: [u16; 4]| from[usize::from(k) % 4];
     Lead {
         sheet: u32::MAX >> k,
-        revision: pick([1, 65_535, 10, 9_999]),
+        revision: [1, u32::MAX, 10, 65_535, 9_999, 65_536][usize::from(k) % 6],
         mark: k % 3,
-        length: pick([16, 2_096, 99, 1_000]),
+        length: [16, 2_096, 99, 1_000][usize::from(k) % 4],
     }
+}
+
+/// 02, order 1: the revision is printed whole, with all its digits, and so are
+/// those around it.
+#[test]
+fn every_digit_of_a_revision() {
+    let mut revisions = vec![1, 2, 255, 256, 65_534, 65_535, 65_536, 65_537];
+    revisions.extend((1..10).flat_map(|n| [10_u32.pow(n) - 1, 10_u32.pow(n)]));
+    revisions.extend([1 << 31, 1_234_567_890, 4_294_967_294, 4_294_967_295]);
+    let slots: Vec<Lead> = revisions
+        .into_iter()
+        .zip(1..)
+        .map(|(revision, sheet)| Lead {
+            sheet,
+            revision,
+            mark: 2,
+            length: 2_096,
+        })
+        .collect();
+    assert_eq!(slots.len(), 30);
+    let store: Vec<u8> = slots.iter().flat_map(|slot| slot.bytes()).collect();
+    let lines = slots.iter().enumerate().map(|(k, slot)| slot.line(k));
+    let expected = lines.collect::<String>() + "used 30 free 0 clear 0 old 0 new 30\n";
+    assert_eq!(listed(&store), expected);
+    assert!(expected.contains("29 30 4294967295 2 2096\n"));
+}
+
+/// The longest lines there are: the numbers of every field at their longest, in
+/// every slot.
+#[test]
+fn longest_lines() {
+    let slot = |k: u32| Lead {
+        sheet: u32::MAX - k,
+        revision: u32::MAX - k,
+        mark: 0,
+        length: 2_096,
+    };
+    let store: Vec<u8> = (0..31).flat_map(|k| slot(k).bytes()).collect();
+    let lines: String = (0..31).map(|k| slot(k).line(k as usize)).collect();
+    assert_eq!(
+        listed(&store),
+        lines + "used 31 free 0 clear 31 old 0 new 0\n"
+    );
+}
+
+/// The store that is kept from before revisions had four bytes.
+#[test]
+fn earlier_store() {
+    let folder = "vectors/store-before-order-1";
+    let listing = format!("{}/../../../{folder}/listing", env!("CARGO_MANIFEST_DIR"));
+    let expected = std::fs::read_to_string(listing).expect("the listing that is kept");
+    assert_eq!(listed_from_file(&format!("{folder}/store")), expected);
 }
 
 /// Free slots have no line, and the others keep their numbers.

@@ -39,7 +39,7 @@ fn sound(random: &mut Random, k: u32) -> Lead {
     let sheet = random.word() as u32 >> below(random, 27);
     Lead {
         sheet: (sheet & !31 | k).max(32),
-        revision: 1 + (below(random, 65_535) >> below(random, 16)) as u16,
+        revision: (random.word() as u32 >> below(random, 32)).max(1),
         mark: below(random, 3) as u8,
         length: 16 + (below(random, 2_081) >> below(random, 12)) as u16,
     }

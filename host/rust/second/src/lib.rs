@@ -1,7 +1,7 @@
 //! AES, EME2-AES, the sheet store and its listing written a second time, from
-//! FIPS 197, source document 000 and 01 alone, so that the proved library can
-//! be compared with something that shares no line with it. It is clear before
-//! it is fast.
+//! FIPS 197, source document 000, 01 and 02 alone, so that the proved library
+//! can be compared with something that shares no line with it. It is clear
+//! before it is fast.
 //!
 //! - `numbers`: what is returned in place of a result (01)
 //! - `field`: the bytes as a field (FIPS 197, section 4)
@@ -10,7 +10,8 @@
 //! - `cipher`: one block, both ways (5.1, 5.3)
 //! - `eme2`: whole messages, both ways (000, Tables 1 and 2)
 //! - `slip`: the errors that a lesson makes in it on purpose (01)
-//! - `record`: one slot of the store, its fields and its text (01, the store)
+//! - `record`: one slot of the store, its fields and its text (01, the store;
+//!   02, order 1)
 //! - `store`: check, read, add, revise, remove
 //! - `step`: one step of the rekeying job
 //! - `listing`: what the listing program prints

@@ -24,7 +24,7 @@ fn lines(store: &[u8]) -> String {
     let slots = store.chunks(RECORD).enumerate();
     let used = slots.filter(|(_, slot)| record::sheet(slot) != 0);
     used.map(|(k, slot)| {
-        let [sheet, revision] = [record::sheet(slot), record::revision(slot).into()];
+        let (sheet, revision) = (record::sheet(slot), record::revision(slot));
         let (mark, length) = (record::mark(slot), record::length(slot));
         format!("{k} {sheet} {revision} {mark} {length}\n")
     })

@@ -19,7 +19,7 @@ pub const TEXT_LENGTH: u32 = 6;
 pub const NO_SHEET: u32 = 7;
 /// 01: the revision named is not the stored one.
 pub const OTHER_REVISION: u32 = 8;
-/// 01: the stored revision is 65,535.
+/// 02, order 1: the stored revision is 4,294,967,295.
 pub const LAST_REVISION: u32 = 9;
 /// 01: no slot has sheet number 0.
 pub const NO_FREE_SLOT: u32 = 10;

@@ -1,6 +1,6 @@
-//! 01, "The store": one record of 2,112 bytes, its fields and its text. It is
-//! the one place in Rust that knows at which byte a field stands; the tests and
-//! the fuzz body go by it too.
+//! 01, "The store": one record of 2,112 bytes, its fields and its text; with
+//! 02, order 1, for the revision. It is the one place in Rust that knows at
+//! which byte a field stands; the tests and the fuzz body go by it too.
 
 use crate::eme2;
 
@@ -12,6 +12,8 @@ pub const LEAD: usize = 16;
 pub const SHORTEST: usize = 16;
 /// The longest text: what a record has behind its lead.
 pub const LONGEST: usize = RECORD - LEAD;
+/// 02, order 1: the last revision; the first is 1.
+pub const GREATEST_REVISION: u32 = 4_294_967_295;
 
 /// The mark of a text in clear.
 pub const CLEAR: u8 = 0;
@@ -20,13 +22,13 @@ pub const OLD: u8 = 1;
 /// The mark of a text under the new key.
 pub const NEW: u8 = 2;
 
-/// The fields of a lead. Bytes 7 and 10 to 15 are 0 if it is sound.
+/// The fields of a lead. Bytes 7 and 12 to 15 are 0 if it is sound.
 #[derive(Clone, Copy, Debug, Eq, PartialEq)]
 pub struct Lead {
     /// Bytes 0 to 3: the sheet number, 0 if the slot is free.
     pub sheet: u32,
-    /// Bytes 4 and 5: the revision.
-    pub revision: u16,
+    /// Bytes 4 and 5, the low half, and 10 and 11, the high half: the revision.
+    pub revision: u32,
     /// Byte 6: the mark.
     pub mark: u8,
     /// Bytes 8 and 9: the length of the text.
@@ -46,9 +48,11 @@ impl Lead {
     /// and behind them.
     pub fn put(self, record: &mut [u8]) {
         record[..4].copy_from_slice(&self.sheet.to_le_bytes());
-        record[4..6].copy_from_slice(&self.revision.to_le_bytes());
+        let (low, high) = (self.revision % 65_536, self.revision / 65_536);
+        record[4..6].copy_from_slice(&low.to_le_bytes()[..2]);
         record[6] = self.mark;
         record[8..10].copy_from_slice(&self.length.to_le_bytes());
+        record[10..12].copy_from_slice(&high.to_le_bytes()[..2]);
     }
 
     /// What stands in a record, sound or not.
@@ -84,10 +88,11 @@ pub fn sheet(record: &[u8]) -> u32 {
     u32::from_le_bytes([record[0], record[1], record[2], record[3]])
 }
 
-/// Bytes 4 and 5: the revision.
+/// Bytes 4 and 5, and 65,536 times bytes 10 and 11: the revision.
 #[must_use]
-pub fn revision(record: &[u8]) -> u16 {
-    u16::from_le_bytes([record[4], record[5]])
+pub fn revision(record: &[u8]) -> u32 {
+    let [low, high] = [4, 10].map(|at| u16::from_le_bytes([record[at], record[at + 1]]));
+    u32::from(low) + 65_536 * u32::from(high)
 }
 
 /// Byte 6: the mark.
@@ -113,7 +118,7 @@ pub fn sound(record: &[u8]) -> bool {
         && mark(record) <= NEW
         && record[7] == 0
         && (SHORTEST..=LONGEST).contains(&length(record))
-        && zeros(&record[10..LEAD])
+        && zeros(&record[12..LEAD])
         && zeros(&record[LEAD + length(record)..])
 }
 
@@ -141,7 +146,7 @@ pub fn text(record: &[u8], keys: Keys) -> Vec<u8> {
 /// All bytes of a slot that holds a text of an allowed length as its mark
 /// says: the lead as it will be stored is the associated data.
 #[must_use]
-pub fn written(sheet: u32, revision: u16, mark: u8, text: &[u8], keys: Keys) -> Vec<u8> {
+pub fn written(sheet: u32, revision: u32, mark: u8, text: &[u8], keys: Keys) -> Vec<u8> {
     let length = u16::try_from(text.len()).expect("at most 2,096 bytes");
     let lead = Lead {
         sheet,

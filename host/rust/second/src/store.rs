@@ -5,7 +5,7 @@ use crate::numbers::{
     BUFFER_LENGTH, KEY_LENGTH, LAST_REVISION, NO_FREE_SLOT, NO_SHEET, OTHER_REVISION,
     SHEET_PRESENT, SHEET_ZERO, SLOT_UNSOUND, STORE_LENGTH, TEXT_LENGTH,
 };
-use crate::record::{self, Keys, CLEAR, LONGEST, NEW, OLD, RECORD, SHORTEST};
+use crate::record::{self, Keys, CLEAR, GREATEST_REVISION, LONGEST, NEW, OLD, RECORD, SHORTEST};
 
 /// The most slots that a store has.
 const MOST: usize = 1_024;
@@ -90,7 +90,7 @@ pub fn read(keys: Keys, store: &[u8], sheet: u32, buffer: &mut [u8]) -> Result<F
     buffer[..length].copy_from_slice(&record::text(slot, keys));
     Ok(Found {
         length: u32::try_from(length).expect("at most 2,096 bytes"),
-        revision: u32::from(record::revision(slot)),
+        revision: record::revision(slot),
     })
 }
 
@@ -133,12 +133,15 @@ pub fn revise(
     let k = found(&slots, sheet)?;
     sound(slots[k])?;
     let stored = record::revision(slots[k]);
-    if seen != u32::from(stored) {
+    if seen != stored {
         return Err(OTHER_REVISION);
     }
-    let revision = stored.checked_add(1).ok_or(LAST_REVISION)?;
+    if stored == GREATEST_REVISION {
+        return Err(LAST_REVISION);
+    }
+    let revision = stored + 1;
     put(store, k, &record::written(sheet, revision, NEW, text, keys));
-    Ok(u32::from(revision))
+    Ok(revision)
 }
 
 /// Zeros the slot of a sheet, sound or not.

@@ -8,7 +8,7 @@
 use lagunedo::{Found, Refusal};
 
 /// The revision after which there is none.
-const LAST_REVISION: u32 = 65_535;
+const LAST_REVISION: u32 = 4_294_967_295;
 
 /// Lengths of a text.
 pub const SHORTEST: usize = 16;

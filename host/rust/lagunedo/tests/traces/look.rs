@@ -53,7 +53,7 @@ impl Trace {
 fn deciphered(record: &[u8], keys: second::Keys) -> Option<Sheet> {
     mark(record).map(|_| Sheet {
         number: record::sheet(record),
-        revision: record::revision(record).into(),
+        revision: record::revision(record),
         text: record::text(record, keys),
     })
 }

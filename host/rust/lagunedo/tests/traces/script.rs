@@ -111,8 +111,8 @@ impl Script {
         let stored = list.found(sheet).map_or(1, |(_, sheet)| sheet.revision);
         let seen = match self.random.below(16) {
             0 => stored - 1,
-            1 => stored + 1,
-            2 => stored + 65_536,
+            1 => stored.wrapping_add(1),
+            2 => stored.wrapping_add(65_536),
             3 => self.random.pick(&[0, 1, 65_535, 65_536, u32::MAX]),
             _ => stored,
         };

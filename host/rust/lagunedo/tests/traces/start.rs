@@ -45,7 +45,7 @@ impl Start {
             let sheet = (!random.one_in(free)).then(|| sheet(random, number));
             let mark = random.pick(&[CLEAR, OLD, NEW]);
             store.extend(match &sheet {
-                Some(s) => written(s.number, s.revision as u16, mark, &s.text, keys.lent()),
+                Some(s) => written(s.number, s.revision, mark, &s.text, keys.lent()),
                 None => vec![0; RECORD],
             });
             places.push(sheet);
@@ -67,11 +67,13 @@ fn numbers(slots: usize) -> Vec<u32> {
 }
 
 fn sheet(random: &mut Random, number: u32) -> Sheet {
-    let revision = match random.below(8) {
-        0 => 65_535,
-        1 => 65_534,
-        2 => 1 + random.below(65_535) as u32,
-        3 => 2 + random.below(8) as u32,
+    let revision = match random.below(16) {
+        0 | 1 => u32::MAX,
+        2 => u32::MAX - 1,
+        3 => random.pick(&[65_534, 65_535, 65_536]),
+        4 => (random.word() as u32).max(1),
+        5 => 1 + random.below(65_535) as u32,
+        6 | 7 => 2 + random.below(8) as u32,
         _ => 1,
     };
     Sheet {

@@ -10,6 +10,23 @@ fn example_of_01() {
     assert_eq!(listing(&example()), expected);
 }
 
+/// 02, order 1: the revision is printed whole.
+#[test]
+fn long_revisions() {
+    for (halves, digits) in [
+        ([255, 255, 0, 0], "65535"),
+        ([0, 0, 1, 0], "65536"),
+        ([1, 2, 3, 4], "67305985"),
+        ([255, 255, 255, 255], "4294967295"),
+    ] {
+        let mut store = example();
+        store[4..6].copy_from_slice(&halves[..2]);
+        store[10..12].copy_from_slice(&halves[2..]);
+        let expected = format!("0 305 {digits} 0 16\nused 1 free 1 clear 1 old 0 new 0\n");
+        assert_eq!(listing(&store), expected);
+    }
+}
+
 #[test]
 fn sizes() {
     let empty = "used 0 free 0 clear 0 old 0 new 0\n";

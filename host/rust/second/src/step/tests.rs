@@ -73,6 +73,29 @@ fn job() {
     }
 }
 
+/// 02, order 1: a step keeps both halves of the revision.
+#[test]
+fn revision_kept() {
+    for halves in [[255, 255, 0, 0], [0, 0, 1, 0], [1, 2, 3, 4], [255; 4]] {
+        for mark in [0, 1] {
+            let mut store = example();
+            store[4..6].copy_from_slice(&halves[..2]);
+            store[10..12].copy_from_slice(&halves[2..]);
+            store[6] = mark;
+            let mut expected = store.clone();
+            if mark == 1 {
+                let (lead, text) = store[..32].split_at_mut(16);
+                assert_eq!(eme2(KEYS.old, false, lead, text), 0);
+            }
+            expected[6] = 2;
+            let (lead, text) = expected[..32].split_at_mut(16);
+            assert_eq!(eme2(KEYS.new, false, lead, text), 0);
+            assert_eq!(step(KEYS, &mut store, &mut 0), Ok(Outcome::Converted));
+            assert!(store == expected, "{halves:?} under mark {mark}");
+        }
+    }
+}
+
 /// 01, both sides of each edge: a step of an empty store is done at once; a
 /// place past the end stays, however large.
 #[test]

@@ -136,24 +136,82 @@ fn revised() {
     assert_eq!(check(&store), sound(1, 1, [0, 0, 1]));
 }
 
-/// 01, both sides of each edge: revision 65,534, then 65,535, the last.
+/// The example with its sheet at a revision, by hand: low half in bytes 4 and
+/// 5, high half in 10 and 11.
+fn at_revision(low: u16, high: u16) -> Vec<u8> {
+    let mut store = example();
+    store[4..6].copy_from_slice(&low.to_le_bytes());
+    store[10..12].copy_from_slice(&high.to_le_bytes());
+    store
+}
+
+/// 02, order 1: after 65,535 comes 65,536, with 0 in the low half and 1 in the
+/// high one. Both halves are in the lead that the text is enciphered with.
+#[test]
+fn past_65535() {
+    let mut store = at_revision(65_534, 0);
+    for (seen, lead) in [
+        (
+            65_534,
+            [0x31, 1, 0, 0, 255, 255, 2, 0, 16, 0, 0, 0, 0, 0, 0, 0],
+        ),
+        (65_535, [0x31, 1, 0, 0, 0, 0, 2, 0, 16, 0, 1, 0, 0, 0, 0, 0]),
+        (65_536, [0x31, 1, 0, 0, 1, 0, 2, 0, 16, 0, 1, 0, 0, 0, 0, 0]),
+    ] {
+        assert_eq!(revise(KEYS, &mut store, 305, seen, PRESS), Ok(seen + 1));
+        assert_eq!(store[..16], lead);
+        let mut stored = *PRESS;
+        assert_eq!(eme2(KEYS.new, false, &lead, &mut stored), 0);
+        assert_eq!(store[16..32], stored);
+        assert_eq!(check(&store), sound(1, 1, [0, 0, 1]));
+        let found = read(KEYS, &store, 305, &mut [0; 16]);
+        assert_eq!(found.map(|found| found.revision), Ok(seen + 1));
+        assert_eq!(text(&store, 305), PRESS);
+    }
+}
+
+/// 02, order 1, both sides of the edge: 4,294,967,294, then 4,294,967,295, the
+/// last.
 #[test]
 fn last_revision() {
-    let mut store = example();
-    store[4..6].copy_from_slice(&65_534_u16.to_le_bytes());
-    assert_eq!(revise(KEYS, &mut store, 305, 65_534, PRESS), Ok(65_535));
+    let mut store = at_revision(65_534, 65_535);
+    let revised = revise(KEYS, &mut store, 305, 4_294_967_294, PRESS);
+    assert_eq!(revised, Ok(4_294_967_295));
     let before = store.clone();
     for (seen, number) in [
-        (65_535, LAST_REVISION),
-        (65_534, OTHER_REVISION),
+        (4_294_967_295, LAST_REVISION),
+        (4_294_967_294, OTHER_REVISION),
+        (65_535, OTHER_REVISION),
         (0, OTHER_REVISION),
-        (65_536, OTHER_REVISION),
-        (65_535 + 65_536, OTHER_REVISION),
     ] {
         assert_eq!(revise(KEYS, &mut store, 305, seen, PRESS), Err(number));
     }
     assert_eq!(store, before);
     assert_eq!(text(&store, 305), PRESS);
+}
+
+/// The revision is compared whole: where one half agrees, it is another one.
+#[test]
+fn one_half_of_the_revision() {
+    for (low, high) in [(2, 0), (2, 1), (1, 2), (0, 1), (65_535, 65_535)] {
+        let mut store = at_revision(low, high);
+        let [low, high] = [low, high].map(u32::from);
+        let stored = high * 65_536 + low;
+        let before = store.clone();
+        for seen in [low, high, high * 65_536, low * 65_536 + high] {
+            if seen != stored {
+                let revised = revise(KEYS, &mut store, 305, seen, PRESS);
+                assert_eq!(revised, Err(OTHER_REVISION), "{seen} at {stored}");
+            }
+        }
+        for half in [1, 65_536] {
+            for seen in [stored.wrapping_add(half), stored.wrapping_sub(half)] {
+                let revised = revise(KEYS, &mut store, 305, seen, PRESS);
+                assert_eq!(revised, Err(OTHER_REVISION), "{seen} at {stored}");
+            }
+        }
+        assert_eq!(store, before);
+    }
 }
 
 /// Each mark is deciphered under its own key, with the lead as stored.
@@ -255,7 +313,7 @@ fn sheet_zero() {
 type Change = (usize, &'static [u8]);
 
 /// Each field out of its range in turn, on both sides where it has two.
-const UNSOUND_FIELDS: [Change; 14] = [
+const UNSOUND_FIELDS: [Change; 15] = [
     (4, &[0, 0]),
     (6, &[3]),
     (6, &[255]),
@@ -264,8 +322,9 @@ const UNSOUND_FIELDS: [Change; 14] = [
     (8, &[0, 0]),
     (8, &[0x31, 8]),
     (8, &[255, 255]),
-    (10, &[1]),
     (12, &[1]),
+    (13, &[1]),
+    (14, &[255]),
     (15, &[128]),
     (32, &[1]),
     (100, &[255]),
@@ -273,16 +332,20 @@ const UNSOUND_FIELDS: [Change; 14] = [
 ];
 
 /// Each field at the ends of its range.
-const SOUND_FIELDS: [Change; 9] = [
+const SOUND_FIELDS: [Change; 13] = [
     (0, &[255, 255, 255, 255]),
     (0, &[0, 0, 0, 1]),
     (4, &[1, 0]),
     (4, &[255, 255]),
+    (4, &[0, 0, 0, 0, 16, 0, 1, 0]),
+    (4, &[0, 0, 0, 0, 16, 0, 0, 1]),
     (6, &[0]),
     (6, &[1]),
     (6, &[2]),
     (8, &[17, 0]),
     (8, &[0x30, 8]),
+    (10, &[1, 0]),
+    (10, &[255, 255]),
 ];
 
 fn changed((place, bytes): Change) -> Vec<u8> {

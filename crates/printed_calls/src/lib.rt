@@ -1,4 +1,4 @@
-// The calls for C, each with what it answered and left behind printed.
+// The store's calls for C, each with what it answered and left behind printed: for the program `edges_store`.
 ghost use mathlib.Core.Path.{_≡_};
 ghost use lib.ListN.{length};
 use libc::STDOUT_FILENO;
