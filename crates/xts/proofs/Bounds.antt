@@ -15,11 +15,11 @@ use Rattle.xts.specs.Xts.{keyTaken, badUnit, number, blockNumber}
 -- ---- the tests
 
 -- a key is taken exactly if it is 32 or 64 bytes
-key-good : (n : ℕ) → keyTaken n ≡ true → (n ≡ 32) ⊎ (n ≡ 64)
+pub key-good : (n : ℕ) → keyTaken n ≡ true → (n ≡ 32) ⊎ (n ≡ 64)
 unfolding keyTaken
 key-good n = either (eqb n 32) (eqb n 64) (λ e. inl (eqb-true n 32 e)) (λ e. inr (eqb-true n 64 e))
 
-key-taken : (n : ℕ) → (n ≡ 32) ⊎ (n ≡ 64) → keyTaken n ≡ true
+pub key-taken : (n : ℕ) → (n ≡ 32) ⊎ (n ≡ 64) → keyTaken n ≡ true
 unfolding keyTaken
 key-taken n =
     ⊎-elim (λ (h : n ≡ 32). ap (λ (t : Bool). t || eqb n 64) (eq-eqb n 32 h))
@@ -34,7 +34,7 @@ unfolding keyTaken
 key-refused n h = ap₂ (λ (x y : Bool). x || y) (ne-eqb n 32 (h .0)) (ne-eqb n 64 (h .1))
 
 -- a unit is refused exactly if it is below 16 bytes or above 65,536
-unit-refused : (n : ℕ) → (n < 16) ⊎ (65536 < n) → badUnit n ≡ true
+pub unit-refused : (n : ℕ) → (n < 16) ⊎ (65536 < n) → badUnit n ≡ true
 unfolding badUnit
 unit-refused n =
     ⊎-elim (λ (h : n < 16). ap (λ (t : Bool). t || ltb 65536 n) (lt-ltb n 16 h))
@@ -44,7 +44,7 @@ unit-bad : (n : ℕ) → badUnit n ≡ true → (n < 16) ⊎ (65536 < n)
 unfolding badUnit
 unit-bad n = either (ltb n 16) (ltb 65536 n) (λ e. inl (ltb-true n 16 e)) (λ e. inr (ltb-true 65536 n e))
 
-unit-taken : (n : ℕ) → (16 ≤ n) × (n ≤ 65536) → badUnit n ≡ false
+pub unit-taken : (n : ℕ) → (16 ≤ n) × (n ≤ 65536) → badUnit n ≡ false
 unfolding badUnit
 unit-taken n h = ap₂ (λ (x y : Bool). x || y) (le-ltb n 16 (h .0)) (le-ltb 65536 n (h .1))
 
@@ -54,7 +54,7 @@ unit-good n e = let t = neither (ltb n 16) (ltb 65536 n) e in (ltb-false n 16 (t
 
 -- ---- the number, by the tests of key and unit
 
-abbrev picked : Bool → Bool → ℕ
+abbrev pub picked : Bool → Bool → ℕ
 picked a b = cond (not a) 15 (cond b 16 0)
 
 at-15 : (a b : Bool) → picked a b ≡ 15 → a ≡ false
@@ -74,7 +74,7 @@ at-0 false b e = let z : ⊥ = omega arith in absurd z
 
 -- of a key of k bytes and a unit of n
 module _ (k n : ℕ) where
-  by-tests : (a b : Bool) → keyTaken k ≡ a → badUnit n ≡ b → number k n ≡ picked a b
+  pub by-tests : (a b : Bool) → keyTaken k ≡ a → badUnit n ≡ b → number k n ≡ picked a b
   unfolding number
   by-tests a b p q = ap₂ picked p q
 
@@ -177,3 +177,9 @@ module _ (k n j : ℕ) where
         (h .0, h .1, is-alone n j .0 (ltb-true j (alone n) (t .1))),
     λ h. block-by 0 true (number-0 k n .1 (h .0, h .1)) (lt-ltb j (alone n) (is-alone n j .1 (h .2))),
   )
+
+  -- a call that passed, as the code and the theorems about it have it
+  pub block-taken : blockNumber k n j ≡ 0 → (number k n ≡ 0) × (j < alone n)
+  block-taken e =
+      let t = block-at-0 (keyTaken k) (badUnit n) (ltb j (alone n)) (sym block-tests ∙ e) in
+      (tests k n ∙ t .0, ltb-true j (alone n) (t .1))

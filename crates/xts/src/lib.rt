@@ -7,7 +7,7 @@
 ghost use mathlib.Core.Bool.{true, false};
 ghost use mathlib.Core.Path.{_≡_};
 ghost use Prim.Native.Nat.{_≤_};
-ghost use lib.ListN.{length};
+ghost use lib.ListN.{length, replicate};
 ghost use Rattle.numbers.specs.Numbers.{answerPaper};
 ghost use Rattle.xts.specs.Xts.{keyTaken, number, numberBlock, tweak, xts, blockUnder};
 ghost use Rattle.xts.specs.Calls.{Called, BlockCalled};
@@ -47,7 +47,7 @@ pub fn block_alone(key: &[u8], number: u64, unit: &[u8], k: u64) -> Single
                 return no_block(Refusal::BlockNotAlone);
             }
             let at = 16 * (k as usize);
-            let b = single(key, number, k, block::load(unit, at));
+            let b = block_under(key, number, k, block::load(unit, at));
             Single {
                 answer: Answer::Done,
                 block: b,
@@ -118,31 +118,15 @@ fn tweak(key: &[u8], number: u64) -> [u8; 16]
 fn number_block(number: u64) -> [u8; 16]
     ensures { λ r. ⌜ r ≡ numberBlock number ⌝ }
 {
-    let i1 = number / 256;
-    let i2 = i1 / 256;
-    let i3 = i2 / 256;
-    let i4 = i3 / 256;
-    let i5 = i4 / 256;
-    let i6 = i5 / 256;
-    let i7 = i6 / 256;
-    [
-        (number % 256) as u8,
-        (i1 % 256) as u8,
-        (i2 % 256) as u8,
-        (i3 % 256) as u8,
-        (i4 % 256) as u8,
-        (i5 % 256) as u8,
-        (i6 % 256) as u8,
-        (i7 % 256) as u8,
-        0,
-        0,
-        0,
-        0,
-        0,
-        0,
-        0,
-        0,
-    ]
+    let mut b = [0u8; 16];
+    let mut left = number;
+    let mut i = 0;
+    while i < 8 {
+        b[i] = (left % 256) as u8;
+        left = left / 256;
+        i += 1;
+    }
+    b
 }
 
 // A refused call for a block.
@@ -156,7 +140,7 @@ fn no_block(x: Refusal) -> Single
 }
 
 // The block c, as block k of the unit with this number, deciphered: its tweak is alpha^k, found by halving k, times that of block 0.
-fn single(key: &[u8], number: u64, k: u64, c: [u8; 16]) -> [u8; 16]
+fn block_under(key: &[u8], number: u64, k: u64, c: [u8; 16]) -> [u8; 16]
     requires { ⌜ keyTaken (length (now key)) ≡ true ⌝ }
     ensures { λ r. ⌜ r ≡ blockUnder (now (key .entry)) number k c ⌝ }
 {

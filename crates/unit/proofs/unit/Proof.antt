@@ -62,8 +62,7 @@ last-two-requires c κs =
     let p = al .before .before in
     let s : List ℕ = p .args .s .now in
     let k : ℕ = al .alone .result in
-    let x : List ℕ = bl .blocks2 .last .1 .1 .1 .1 .0 in
-    (
+    let x : List ℕ = bl .blocks2 .last .1 .1 .1 .1 .0 in (
       p .pre .0,
       p .pre .1,
       left-over s (p .pre .2) k (al .alone .ensures) (putMid 0 (16 * k - 0) s x)
