@@ -1,7 +1,7 @@
 -- A store of two sheets in clear, of sixteen zeros each, which passes the check.
 -- Assumes nothing.
 use mathlib.Core.Path.{_≡_, refl, ap, ap₂, _∙_}
-use mathlib.Core.Bool.{true, not, _||_}
+use mathlib.Core.Bool.{true, false, not, _||_}
 use mathlib.Core.List.{List, _++_}
 use Prim.Native.Nat.{ℕ, zero, suc, _+_, _-_, _<_, _/_, _%_}
 use native.Mathlib.Omega.{arith}
@@ -21,8 +21,12 @@ use Rattle.claims.proofs.Checking.{Apart, good-passes}
 unfoldable pub clear : ℕ → List ℕ
 clear n = recordOf n 1 0 (replicate 16 0)
 
-pub twoClear : List ℕ
-twoClear = clear 1 ++ clear 2
+-- a store of two of them
+unfoldable pub twoOf : ℕ → ℕ → List ℕ
+twoOf m n = clear m ++ clear n
+
+abbrev pub twoClear : List ℕ
+twoClear = twoOf 1 2
 
 module _ (n : ℕ) where
   length-text : length (replicate {A = ℕ} 16 0) ≡ 16
@@ -53,20 +57,39 @@ module _ (n : ℕ) where
     unfolding clear
     sound-clear z = sound-record n 1 0 (replicate 16 0) (omega (arith, length-text)) z h (omega arith) (omega arith) (omega arith) (omega (arith, length-text))
 
-length-two : length twoClear ≡ 4224
-unfolding twoClear
-length-two = length-append (clear 1) (clear 2) ∙ ap₂ (λ (a b : ℕ). a + b) (length-clear 1) (length-clear 2)
+module _ (m n : ℕ) where
+  length-two : length (twoOf m n) ≡ 4224
+  unfolding twoOf
+  length-two = length-append (clear m) (clear n) ∙ ap₂ (λ (a b : ℕ). a + b) (length-clear m) (length-clear n)
+
+  pub slots-two : slots (twoOf m n) ≡ 2
+  slots-two = ap (λ (l : ℕ). l / recordSize) length-two
+
+  pub size-two : badSize (twoOf m n) ≡ false
+  unfolding badSize
+  size-two = ap (λ (l : ℕ). not (eqb (l % recordSize) 0) || ltb 1024 (l / recordSize)) length-two
+
+  pub bytes-two : Bytes (twoOf m n)
+  unfolding twoOf
+  bytes-two = bytes-append (clear m) (clear n) (bytes-clear m) (bytes-clear n)
+
+  pub first-of-two : slot (twoOf m n) 0 ≡ clear m
+  unfolding twoOf row
+  first-of-two = take-at (clear m) (clear n) recordSize (length-clear m)
+
+  pub second-of-two : slot (twoOf m n) 1 ≡ clear n
+  unfolding twoOf row
+  second-of-two =
+      ap (take recordSize) (drop-at (clear m) (clear n) recordSize (length-clear m)) ∙ take-all recordSize (clear n) (omega (arith, length-clear n))
 
 pub two-slots : slots twoClear ≡ 2
-two-slots = ap (λ (n : ℕ). n / recordSize) length-two
+two-slots = slots-two 1 2
 
 pub slot-0 : slot twoClear 0 ≡ clear 1
-unfolding twoClear row
-slot-0 = take-at (clear 1) (clear 2) recordSize (length-clear 1)
+slot-0 = first-of-two 1 2
 
 pub slot-1 : slot twoClear 1 ≡ clear 2
-unfolding twoClear row
-slot-1 = ap (take recordSize) (drop-at (clear 1) (clear 2) recordSize (length-clear 1)) ∙ take-all recordSize (clear 2) (omega (arith, length-clear 2))
+slot-1 = second-of-two 1 2
 
 -- what holds of both slots
 pub both : (P : ℕ → Type 0) → P 0 → P 1 → (k : ℕ) → k < 2 → P k
@@ -75,11 +98,10 @@ both P a b (suc zero) h = b
 both P a b (suc (suc k)) h = let y : ⊥ = omega arith in absurd y
 
 pub sound-two : SoundStore twoClear
-unfolding badSize twoClear
 sound-two =
     record {
-      size = ap (λ (n : ℕ). not (eqb (n % recordSize) 0) || ltb 1024 (n / recordSize)) length-two;
-      bytes = bytes-append (clear 1) (clear 2) (bytes-clear 1) (bytes-clear 2);
+      size = size-two 1 2;
+      bytes = bytes-two 1 2;
       each = λ k h. both (λ i. sound (slot twoClear i) ≡ true)
           (ap sound slot-0 ∙ sound-clear 1 (omega arith) (λ q. let y : ⊥ = omega arith in y))
           (ap sound slot-1 ∙ sound-clear 2 (omega arith) (λ q. let y : ⊥ = omega arith in y)) k (omega (arith, two-slots));

@@ -1,4 +1,5 @@
--- Demand 3: what its sentences speak of, and what is claimed of a step, whatever it does; and the two idle steps that 01 wants shut out.
+-- Demand 3: what its sentences speak of, and what is claimed of a step, whatever it does; and the two idle steps that 01 wants shut out. Also what is
+-- claimed of a removal made again.
 -- Assumes nothing.
 use mathlib.Core.Path.{_≡_}
 use mathlib.Core.Bool.{true, false, cond, _||_}
@@ -7,10 +8,14 @@ use Prim.Native.Nat.{ℕ, zero, suc, _≤_, _<_}
 use lib.Dec.{eqb}
 use lib.ListN.{length, getD}
 use Rattle.block.specs.Bytes.{Bytes}
-use Rattle.slots.specs.Slots.{slots, slot}
+use Rattle.numbers.specs.declared.Refusal.the-variants.{NoSheet}
+use Rattle.slots.specs.Slots.{slots, slot, badSize}
 use Rattle.checking.specs.Check.{checkAnswer, counts, marked}
-use Rattle.store.specs.declared.Removed.the-variants.{Done}
-use Rattle.claims.specs.Machine.{Event, reading, adding, revising, removing, stepping, AllAllowed, Answer, ofRemoved, ofStep}
+use Rattle.plans.specs.Plans.{removePlan}
+use Rattle.store.specs.declared.Removed.{Removed}
+use Rattle.store.specs.declared.Removed.the-variants.{Done, Refused}
+use Rattle.store.specs.Calls.{removeAnswer, removeStore}
+use Rattle.claims.specs.Machine.{Event, reading, adding, converting, revising, removing, stepping, AllAllowed, Answer, ofRemoved, ofStep}
 use Rattle.claims.specs.Machine.{State, Step, storeStep, finalBy, answers}
 
 -- a key: 48 or 64 bytes
@@ -32,6 +37,7 @@ abbrev pub stepsOf : ℕ → List Event → ℕ
 stepsOf c [] = 0
 stepsOf c (reading n b ∷ es) = stepsOf c es
 stepsOf c (adding n t ∷ es) = stepsOf c es
+stepsOf c (converting n x ∷ es) = stepsOf c es
 stepsOf c (revising n v t ∷ es) = stepsOf c es
 stepsOf c (removing n ∷ es) = stepsOf c es
 stepsOf c (stepping d ∷ es) = cond (eqb c d) (suc (stepsOf c es)) (stepsOf c es)
@@ -75,3 +81,17 @@ answerAt l i = getD l i ofStep
 -- an accepted removal of sheet n stands at position k
 abbrev pub RemovedAt : (o w : List ℕ) (es : List Event) (st : State) (n k : ℕ) → Type 0
 RemovedAt o w es st n k = (eventAt es k ≡ removing n) × (answerAt (answers o w es st) k ≡ ofRemoved Done)
+
+-- ---- a removal made again, while nothing came between
+
+-- what the second removal of sheet n answers
+abbrev pub removedAgain : List ℕ → ℕ → Removed
+removedAgain s n = removeAnswer (removePlan (removeStore s (removePlan s n)) n)
+
+-- from every store of the kind, a removal that was accepted answers 7 when it is made again
+abbrev pub RemovedOnce : (List ℕ → Type 0) → Type 0
+RemovedOnce Kind = (s : List ℕ) → Bytes s → Kind s → (n : ℕ) → removeAnswer (removePlan s n) ≡ Done → removedAgain s n ≡ Refused NoSheet
+
+-- any store that a removal works on: not refused with 4
+abbrev pub RightSize : List ℕ → Type 0
+RightSize s = badSize s ≡ false

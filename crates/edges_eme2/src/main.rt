@@ -28,50 +28,26 @@ fn main() {
     let mut message = [0u8; 65537];
     fill(&mut key, 7, 1);
     fill(&mut ad, 11, 5);
-    keys(&key, &ad, &mut message);
+    every_length(&key, &ad, &mut message);
 }
 
-// Every length of the key, at the front of the longest one.
-fn keys(key: &[u8], ad: &[u8], message: &mut [u8])
+// Every length of the key with every length of the associated data and of the message, 7 by 7 by 11, each at the front of the longest one.
+fn every_length(key: &[u8], ad: &[u8], message: &mut [u8])
     requires { ⌜ (length (now key) ≡ 65) × (length (now ad) ≡ 1025) × (length (now message) ≡ 65537) ⌝ }
 {
     let mut i = 0;
-    while i < 7 {
-        let n = key_length(i);
-        data(&key[0..n], ad, message);
+    while i < 539 {
+        let k = key_length(i / 11 / 7);
+        let a = data_length(i / 11 % 7);
+        let m = message_length(i % 11);
+        both_ways(&key[0..k], &ad[0..a], &mut message[0..m]);
         i += 1;
     }
 }
 
-// Every length of the associated data.
-fn data(key: &[u8], ad: &[u8], message: &mut [u8])
-    requires { ⌜ (length (now ad) ≡ 1025) × (length (now message) ≡ 65537) ⌝ }
-{
-    let mut i = 0;
-    while i < 7 {
-        let n = data_length(i);
-        messages(key, &ad[0..n], message);
-        i += 1;
-    }
-}
-
-// Every length of the message.
-fn messages(key: &[u8], ad: &[u8], message: &mut [u8])
-    requires { ⌜ length (now message) ≡ 65537 ⌝ }
-{
-    let mut i = 0;
-    while i < 11 {
-        let n = message_length(i);
-        both_ways(key, ad, message, n);
-        i += 1;
-    }
-}
-
-fn both_ways(key: &[u8], ad: &[u8], message: &mut [u8], n: usize)
-    requires { ⌜ (length (now message) ≡ 65537) × (n ≤ 65537) ⌝ }
-{
-    line(false, key, ad, &mut message[0..n]);
-    line(true, key, ad, &mut message[0..n]);
+fn both_ways(key: &[u8], ad: &[u8], message: &mut [u8]) {
+    line(false, key, ad, message);
+    line(true, key, ad, message);
 }
 
 // Makes one call on a fresh message, and prints its line.

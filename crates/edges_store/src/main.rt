@@ -18,18 +18,16 @@
 // The lines to expect are the second implementation's (host/rust/second/examples/edges_store.rs).
 use libc::STDIN_FILENO;
 use patterns::fill;
-ghost use mathlib.Core.Path.{_≡_};
-ghost use lib.ListN.{length};
-// The calls, each with what it answered and left behind printed.
-mod calls;
-
 use script::Line;
 use script::at_most;
+use script::by_hand;
 use script::chosen;
 use script::echoed;
 use script::past_line;
 use script::print;
 use script::word;
+ghost use mathlib.Core.Path.{_≡_};
+ghost use lib.ListN.{length};
 
 fn main() {
     let mut script = io::large_buffer();
@@ -63,13 +61,13 @@ fn lines(script: &[u8], old: &[u8], new: &[u8], store: &mut [u8], before: &mut [
         o = chosen(l.kind, b's', l.a, o);
         n = chosen(l.kind, b's', l.b, n);
         bytes = chosen(l.kind, b'r', l.a, bytes);
-        lend(l, o, n, bytes, old, new, store, before);
+        run(l, o, n, bytes, old, new, store, before);
         at = past;
     }
 }
 
-// Lends the line what it works on, of the lengths asked for.
-fn lend(
+// Runs a line on the keys and the store, of the lengths asked for, and takes a copy of the store first.
+fn run(
     l: Line,
     o: usize,
     n: usize,
@@ -84,21 +82,8 @@ fn lend(
     let k = at_most(o, 65);
     let m = at_most(n, 65);
     let s = at_most(bytes, 2164800);
-    run(
-        l,
-        &old[0..k],
-        &new[0..m],
-        &mut store[0..s],
-        &mut before[0..s],
-    );
-}
-
-// Runs a line on the store, of which it takes a copy first.
-fn run(l: Line, old: &[u8], new: &[u8], store: &mut [u8], before: &mut [u8])
-    requires { ⌜ length (now before) ≡ length (now store) ⌝ }
-{
-    block::copy(before, 0, store);
-    on_store(l, old, new, store, before);
+    block::copy(&mut before[0..s], 0, &store[0..s]);
+    on_store(l, &old[0..k], &new[0..m], &mut store[0..s], &before[0..s]);
     print(b"\n");
 }
 
@@ -106,55 +91,28 @@ fn on_store(l: Line, old: &[u8], new: &[u8], store: &mut [u8], before: &[u8])
     requires { ⌜ length (now before) ≡ length (now store) ⌝ }
 {
     if l.kind == b'c' {
-        calls::check(store, before);
+        printed_calls::check(store, before);
         return;
     }
     if l.kind == b'd' {
-        calls::read(old, new, store, before, word(l.a), l.b);
+        printed_calls::read(old, new, store, before, word(l.a), l.b);
         return;
     }
     if l.kind == b' ' {
-        calls::add(old, new, store, before, word(l.a), l.b, l.c);
+        printed_calls::add(old, new, store, before, word(l.a), l.b, l.c);
         return;
     }
     if l.kind == b'i' {
-        calls::revise(old, new, store, before, word(l.a), word(l.b), l.c, l.d);
+        printed_calls::revise(old, new, store, before, word(l.a), word(l.b), l.c, l.d);
         return;
     }
     if l.kind == b'o' {
-        calls::remove(store, before, word(l.a));
+        printed_calls::remove(store, before, word(l.a));
         return;
     }
     if l.kind == b'p' {
-        calls::step(old, new, store, before, l.a);
+        printed_calls::step(old, new, store, before, l.a);
         return;
     }
     by_hand(l.kind, l.a, l.b, l.c, old, store);
-}
-
-// What no call of the store does: a pattern written into it, and a text put under the old key.
-fn by_hand(kind: u8, at: usize, n: usize, from: usize, old: &[u8], store: &mut [u8]) {
-    if at > store.len() {
-        return;
-    }
-    if n > store.len() - at {
-        return;
-    }
-    if kind == b't' {
-        fill(&mut store[at..at + n], 3, from);
-        return;
-    }
-    if kind == b'l' {
-        seal(old, &mut store[at..at + n]);
-    }
-}
-
-// The text behind a lead enciphered with the lead.
-fn seal(key: &[u8], s: &mut [u8]) {
-    if s.len() < 16 {
-        return;
-    }
-    let lead = block::load(s, 0);
-    let n = s.len();
-    lagunedo::lagunedo_eme2_encipher(key, &lead, &mut s[16..n]);
 }

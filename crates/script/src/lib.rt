@@ -1,9 +1,12 @@
-// The lines of a script, the kind of each and its numbers, and what is printed of a call: for the program `edges_store`.
+// The lines of a script, the kind of each and its numbers, what a line does by hand, and what is printed of a call: for the program `edges_store`.
 ghost use Prim.Native.Nat.{_≤_, _<_};
 ghost use lib.ListN.{length};
+// What a line does to the store that is no call of it.
+mod prepare;
 // What is printed of a call.
 mod show;
 
+pub use prepare::by_hand;
 pub use show::print;
 pub use show::print_digest;
 pub use show::print_field;

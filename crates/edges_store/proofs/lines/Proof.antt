@@ -45,8 +45,8 @@ chosen-requires-2 c κs = search needs
 chosen-requires-3 : tie.Need-chosen-requires-3 Inv-loop μ-loop
 chosen-requires-3 c κs = search needs
 
-lend-requires : tie.Need-lend-requires Inv-loop μ-loop
-lend-requires c κs = omega arith
+run-requires : tie.Need-run-requires Inv-loop μ-loop
+run-requires c κs = omega arith
 
 loop-less : tie.Need-loop-less Inv-loop μ-loop
 loop-less c = omega arith
@@ -79,7 +79,7 @@ lines-spec =
     chosen-requires
     chosen-requires-2
     chosen-requires-3
-    lend-requires
+    run-requires
     loop-less
     loop-again
     same-length
