@@ -62,6 +62,7 @@ int main(void)
     test_job();
     test_xts();
     test_takeover();
+    test_alone();
     test_stack();
     test_numbers();
 

@@ -19,8 +19,8 @@
  * need no alignment. NULL is allowed if the length is 0, and only then.
  *
  * What a call gives beside the number it returns is written behind pointers
- * to the caller's own uint32_t, uint64_t or struct lagunedo_job. These are
- * aligned as their type asks, and never NULL.
+ * to the caller's own uint32_t, uint64_t or struct lagunedo_job, or to 16
+ * bytes for a block. These are aligned as their type asks, and never NULL.
  *
  * Memory that a call overwrites must not overlap any other lent to it, not
  * even in one byte; what is only read may.
