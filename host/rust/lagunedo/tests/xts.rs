@@ -26,6 +26,7 @@ const LONG: [usize; 22] = [
 const EVERY_LENGTH: usize = 585 * 2 * 4 * 2;
 const LONG_ONES: usize = LONG.len() * 2 * 4 * 2;
 const EXTREME: usize = 6 * 2 * 125 * 2;
+const EVERY_BLOCK: usize = 22_881;
 
 /// Memory with random bytes of these lengths, and where it came from.
 fn drawn(key: usize, unit: usize, seed: u64) -> (Memory, usize) {
@@ -187,7 +188,7 @@ fn every_block() {
     for unit in LONG {
         read += blocks_of(unit, 64, 37, SEED + 30_000 + unit as u64);
     }
-    assert!(read > 20_000, "{read} blocks");
+    assert_eq!(read, EVERY_BLOCK);
 }
 
 /// Nothing of the unit but the block is looked at: with every other byte
