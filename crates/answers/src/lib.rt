@@ -150,7 +150,7 @@ pub fn add(old: &[u8], new: &[u8], store: &mut [u8], sheet: u32, text: &[u8], v:
 }
 
 pub fn add_xts(
-    xts_key: &[u8],
+    key: &[u8],
     number: u64,
     unit: &[u8],
     old: &[u8],
@@ -159,10 +159,10 @@ pub fn add_xts(
     sheet: u32,
     v: u32,
 ) -> StoreValues
-    ensures { λ r. ⌜ AddXtsForC (now (xts_key .entry)) number (now (unit .entry)) (now (old .entry)) (now (new .entry)) (now (store .entry)) sheet v
+    ensures { λ r. ⌜ AddXtsForC (now (key .entry)) number (now (unit .entry)) (now (old .entry)) (now (new .entry)) (now (store .entry)) sheet v
         (r .number) (now (store .exit)) (r .revision) ⌝ }
 {
-    stored(takeover::add_xts(xts_key, number, unit, old, new, store, sheet), v)
+    stored(takeover::add_xts(key, number, unit, old, new, store, sheet), v)
 }
 
 pub fn revise(

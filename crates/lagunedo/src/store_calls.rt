@@ -67,7 +67,7 @@ pub extern "C" fn lagunedo_add(
 // A new sheet from a data unit under XTS-AES; 15, 16, then add's own.
 #[no_mangle]
 pub extern "C" fn lagunedo_add_xts(
-    xts_key: &[u8],
+    key: &[u8],
     number: u64,
     unit: &[u8],
     old: &[u8],
@@ -76,10 +76,10 @@ pub extern "C" fn lagunedo_add_xts(
     sheet: u32,
     revision: &mut u32,
 ) -> u32
-    ensures { λ r. ⌜ AddXtsForC (now (xts_key .entry)) number (now (unit .entry)) (now (old .entry)) (now (new .entry)) (now (store .entry)) sheet
+    ensures { λ r. ⌜ AddXtsForC (now (key .entry)) number (now (unit .entry)) (now (old .entry)) (now (new .entry)) (now (store .entry)) sheet
         (now (revision .entry)) r (now (store .exit)) (now (revision .exit)) ⌝ }
 {
-    let a = answers::add_xts(xts_key, number, unit, old, new, store, sheet, *revision);
+    let a = answers::add_xts(key, number, unit, old, new, store, sheet, *revision);
     *revision = a.revision;
     a.number
 }

@@ -7,8 +7,7 @@ ghost use Prim.Native.Nat.{_≤_};
 ghost use lib.ListN.{length};
 ghost use Rattle.records.specs.Record.{textMost};
 ghost use Rattle.store.specs.Conversions.{ConvertCalled};
-ghost use Rattle.xts.specs.Xts.{number};
-ghost use Rattle.takeover.specs.Sources.{xtsSource};
+ghost use Rattle.takeover.specs.Sources.{Taken, xtsSource};
 use numbers::Answer;
 use records::TEXT_MOST;
 use store::Stored;
@@ -17,7 +16,7 @@ use store::add;
 // Adds a data unit under XTS-AES, deciphered, as a sheet; 15, 16, then add's own. One longer than any text is not deciphered: add refuses it by its
 // length.
 pub fn add_xts(
-    xts_key: &[u8],
+    key: &[u8],
     number: u64,
     unit: &[u8],
     old: &[u8],
@@ -26,24 +25,24 @@ pub fn add_xts(
     sheet: u32,
 ) -> Stored
     ensures { λ a. ⌜ ConvertCalled (now (old .entry)) (now (new .entry)) (now (store .entry)) sheet
-        (xtsSource (now (xts_key .entry)) number (now (unit .entry))) a (now (store .exit)) ⌝ }
+        (xtsSource (now (key .entry)) number (now (unit .entry))) a (now (store .exit)) ⌝ }
 {
     let l = unit.len();
-    match xts::tested(xts_key.len(), l) {
+    match xts::tested(key.len(), l) {
         Answer::Refused(x) => Stored::Refused(x),
         Answer::Done => {
             if l > TEXT_MOST {
                 return add(old, new, store, sheet, unit);
             }
             let mut room = [0u8; TEXT_MOST];
-            add_in(xts_key, number, unit, old, new, store, sheet, &mut room)
+            add_in(key, number, unit, old, new, store, sheet, &mut room)
         }
     }
 }
 
 // A unit that is not refused and may be a text, with room for it lent.
 fn add_in(
-    xts_key: &[u8],
+    key: &[u8],
     number: u64,
     unit: &[u8],
     old: &[u8],
@@ -52,12 +51,12 @@ fn add_in(
     sheet: u32,
     room: &mut [u8],
 ) -> Stored
-    requires { ⌜ (number (length (now xts_key)) (length (now unit)) ≡ 0) × (length (now unit) ≤ textMost) × (length (now room) ≡ textMost) ⌝ }
+    requires { ⌜ (Taken (now key) (now unit)) × (length (now unit) ≤ textMost) × (length (now room) ≡ textMost) ⌝ }
     ensures { λ a. ⌜ ConvertCalled (now (old .entry)) (now (new .entry)) (now (store .entry)) sheet
-        (xtsSource (now (xts_key .entry)) number (now (unit .entry))) a (now (store .exit)) ⌝ }
+        (xtsSource (now (key .entry)) number (now (unit .entry))) a (now (store .exit)) ⌝ }
 {
     let l = unit.len();
     block::copy(room, 0, unit);
-    xts::decipher(xts_key, number, &mut room[0..l]);
+    xts::decipher(key, number, &mut room[0..l]);
     add(old, new, store, sheet, &room[0..l])
 }

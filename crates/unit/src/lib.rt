@@ -71,8 +71,8 @@ fn last_two(back: bool, keys: [[u8; 16]; 15], nr: usize, t: [u8; 16], s: &mut [u
     steal(back, keys, nr, t, next, s);
 }
 
-// Ciphertext stealing on s, a full block and fewer than 16 bytes: the block under the first tweak gives the bytes after it their place in front of
-// its own last bytes, which go under the second tweak with them, and takes theirs with its first ones.
+// Ciphertext stealing on s, a full block and fewer than 16 bytes after it. The first bytes of what the first tweak makes of the block change places with
+// those after it, and the block that comes of that goes under the second tweak.
 fn steal(
     back: bool,
     keys: [[u8; 16]; 15],
