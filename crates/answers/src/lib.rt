@@ -162,7 +162,10 @@ pub fn add_xts(
     ensures { λ r. ⌜ AddXtsForC (now (key .entry)) number (now (unit .entry)) (now (old .entry)) (now (new .entry)) (now (store .entry)) sheet v
         (r .number) (now (store .exit)) (r .revision) ⌝ }
 {
-    stored(takeover::add_xts(key, number, unit, old, new, store, sheet), v)
+    stored(
+        takeover::add_xts(key, number, unit, old, new, store, sheet),
+        v,
+    )
 }
 
 pub fn revise(

@@ -65,8 +65,8 @@ module _ (r : List ℕ) where
       let spares : allZero (take 4 (drop 12 r)) ≡ true = ap (λ (u : List ℕ). allZero (take 4 u)) (sym (drop-drop 2 10 r)) ∙ last-four t (p .5) in (
         same,
         sound-taken r z
-        ∙ used-last r revised (leb-true (mark r) 2 (p .1)) (eqb-true (byte r 7) 0 (p .2)) (leb-true 16 (len r) (p .3)) (leb-true (len r) textMost (p .4)) spares
-        ∙ p .6,
+            ∙ used-last r revised (leb-true (mark r) 2 (p .1)) (eqb-true (byte r 7) 0 (p .2)) (leb-true 16 (len r) (p .3)) (leb-true (len r) textMost (p .4)) spares
+            ∙ p .6,
       )
 
   of-free : num r ≡ 0 → allZero r ≡ true → (rev r ≡ earlier.rev r) × (sound r ≡ true)
