@@ -1,4 +1,5 @@
--- 000, table 1, steps 14 and 43, and IEEE 1619-2007, 5.3.2: each block of a text under a mask that is twice the one of the block before it.
+-- The masks of 000, table 1, steps 12 to 17 and 41 to 45, and of IEEE 1619-2007, 5.3.2: each block of a text under a mask that is twice the one of the
+-- block before it.
 -- Assumes nothing.
 use mathlib.Core.List.{List, [], _∷_}
 use Prim.Native.Nat.{ℕ}
