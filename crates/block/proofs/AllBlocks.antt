@@ -1,6 +1,5 @@
 -- Lists of blocks: the full blocks of a list of bytes are one, and what such a list is put together to is bytes.
 -- Assumes nothing.
-use mathlib.Core.Path.{_≡_, refl, ap}
 use mathlib.Core.List.{List, [], _∷_, _++_}
 use Prim.Native.Nat.{ℕ, zero, suc, _*_, _≤_}
 use native.Mathlib.Omega.{arith}

@@ -62,12 +62,12 @@ module _ (r : List ℕ) where
       let high = first-two t (p .5) in
       let same : rev r ≡ earlier.rev r = low-half (sym (getD-drop 10 r 0 0) ∙ high .0) (sym (getD-drop 10 r 1 0) ∙ high .1) in
       let revised : 1 ≤ rev r = omega (arith, ltb-true 0 (earlier.rev r) (p .0)) in
-      let spares : allZero (take 4 (drop 12 r)) ≡ true = ap (λ (u : List ℕ). allZero (take 4 u)) (sym (drop-drop 2 10 r)) ∙ last-four t (p .5) in (
-        same,
-        sound-taken r z
-            ∙ used-last r revised (leb-true (mark r) 2 (p .1)) (eqb-true (byte r 7) 0 (p .2)) (leb-true 16 (len r) (p .3)) (leb-true (len r) textMost (p .4)) spares
-            ∙ p .6,
-      )
+      let spares : allZero (take 4 (drop 12 r)) ≡ true = ap (λ (u : List ℕ). allZero (take 4 u)) (sym (drop-drop 2 10 r)) ∙ last-four t (p .5) in
+      let marked : mark r ≤ 2 = leb-true (mark r) 2 (p .1) in
+      let spare : byte r 7 ≡ 0 = eqb-true (byte r 7) 0 (p .2) in
+      let least : 16 ≤ len r = leb-true 16 (len r) (p .3) in
+      let most : len r ≤ textMost = leb-true (len r) textMost (p .4) in
+      (same, sound-taken r z ∙ used-last r revised marked spare least most spares ∙ p .6)
 
   of-free : num r ≡ 0 → allZero r ≡ true → (rev r ≡ earlier.rev r) × (sound r ≡ true)
   of-free e h = (low-half (zero-at r h 10) (zero-at r h 11), sound-free r e ∙ h)

@@ -5,7 +5,7 @@ use mathlib.Core.Path.{_≡_, refl, sym, ap, ap₂, _∙_, subst}
 use mathlib.Core.Bool.{Bool}
 use mathlib.Core.List.{List, [], _∷_, _++_, map, append-nil}
 use mathlib.Core.Logic.{_⊎_}
-use Prim.Native.Nat.{ℕ, _+_, _-_, _*_, _/_, _≤_, _<_}
+use Prim.Native.Nat.{ℕ, _+_, _-_, _*_, _≤_, _<_}
 use native.Mathlib.Nat.{zero-add}
 use native.Mathlib.Omega.{arith}
 use borrow.Rule.Slice.PartMut.{putMid}
@@ -20,7 +20,7 @@ use Rattle.block.proofs.BlockLaws.{Sized, sized-map, sized-blocks, length-block
 use Rattle.block.proofs.PartLaws.{part-changed}
 use Rattle.field.specs.Masks.{masked}
 use Rattle.field.proofs.MaskLaws.{sized-masked}
-use Rattle.unit.specs.Unit.{alone, xtsBlock, xtsBlocks, CC, Cm, CP, stolen, lastTwo, xtsUnit}
+use Rattle.unit.specs.Unit.{alone, xtsBlock, xtsBlocks, Cm, CP, stolen, lastTwo, xtsUnit}
 use Rattle.unit.proofs.AloneLaws.{left-of}
 
 -- ---- masks around the permutation

@@ -21,7 +21,7 @@ use Rattle.block.proofs.DoubleLaws.{block-double, block-doubles}
 use Rattle.block.proofs.BlockLaws.{length-blocks, blocks-join, length-join, join-blocks-take}
 use Rattle.block.proofs.AllBlocks.{AllBlocks, all-sized, all-blocks, bytes-joined}
 use Rattle.unit.specs.Unit.{alone, xtsBlock, xtsBlocks, CC, Cm, CP, PP, stolen, lastTwo, xtsUnit}
-use Rattle.unit.proofs.AloneLaws.{Left, left-of}
+use Rattle.unit.proofs.AloneLaws.{left-of}
 
 -- the two tweaks of stealing change places with the direction
 turned : (back : Bool) (x y : List ℕ) → cond (not back) x y ≡ cond back y x
@@ -119,7 +119,7 @@ module _ (f g : List ℕ → List ℕ) (u : Undoes f g) where
 
   record Kept (back : Bool) (T d : List ℕ) : Type 0 where
     long : length (lastTwo f back T d) ≡ length d
-    byte : Bytes (lastTwo f back T d)
+    bytes : Bytes (lastTwo f back T d)
     back-again : lastTwo g (not back) T (lastTwo f back T d) ≡ d
 
   kept : (back : Bool) {T : List ℕ} → Block T → (d : List ℕ) → Bytes d → (length d ≡ 0) ⊎ ((16 < length d) × (length d < 32)) → Kept back T d
@@ -130,7 +130,7 @@ module _ (f g : List ℕ → List ℕ) (u : Undoes f g) where
           let e : lastTwo f back T d ≡ d = none-last f back T d h in
           record {
             long = ap length e;
-            byte = subst Bytes (sym e) bd;
+            bytes = subst Bytes (sym e) bd;
             back-again = ap (lastTwo g (not back) T) e ∙ none-last g (not back) T d h;
           }
 
@@ -150,7 +150,7 @@ module _ (f g : List ℕ → List ℕ) (u : Undoes f g) where
           let l : length E ≡ length d = length-stolen h₁ h₂ hP s ls bs ∙ omega (arith, length-drop 16 d) in
           record {
             long = ap length e ∙ l;
-            byte = subst Bytes (sym e) (bytes-stolen h₁ h₂ hP s ls bs);
+            bytes = subst Bytes (sym e) (bytes-stolen h₁ h₂ hP s ls bs);
             back-again =
                 ap (lastTwo g (not back) T) e
                 ∙ last-two g (not back) T E (omega arith)
@@ -192,7 +192,7 @@ module _ (f g : List ℕ → List ℕ) (u : Undoes f g) where
 
     pub bytes-unit : Bytes (xtsUnit f back T P)
     unfolding xtsUnit
-    bytes-unit = bytes-append (join X) (lastTwo f back (doubles n T) d) (bytes-joined X hX) (end .byte)
+    bytes-unit = bytes-append (join X) (lastTwo f back (doubles n T) d) (bytes-joined X hX) (end .bytes)
 
     -- split again, it is the same blocks and the same bytes after them
     pub unit-undone : xtsUnit g (not back) T (xtsUnit f back T P) ≡ P

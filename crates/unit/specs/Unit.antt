@@ -1,6 +1,6 @@
--- IEEE 1619-2007, 5.3 and 5.4: a data unit under XTS, over a block function f (AES-enc under Key1, or to decipher AES-dec), the tweak T of
--- block 0 and the direction, in the standard's variables. P0 to Pm-1 are the full blocks, Pm the bytes after them, fewer than 16: none where the length is a
--- multiple of 16. To decipher, P and C change places.
+-- IEEE 1619-2007, 5.3 and 5.4: a data unit under XTS, over a block function f (AES-enc under Key1, or to decipher AES-dec), the tweak T of block 0 and
+-- the direction, in the standard's variables. P0 to Pm-1 are the m full blocks, and Pm the bytes after them, fewer than 16: none where the length is
+-- a multiple of 16. To decipher, P and C change places.
 -- Assumes nothing.
 use mathlib.Core.Bool.{Bool, cond}
 use mathlib.Core.List.{List, [], _∷_, _++_}
@@ -11,8 +11,8 @@ use Rattle.block.specs.Xor.{_⊕_}
 use Rattle.block.specs.Blocks.{blocks, join}
 use Rattle.block.specs.Double.{double, doubles}
 
--- 02, order 3: of a unit of n bytes, how many blocks can be read alone: those below m where n is a multiple of 16, and else below m - 1.
--- No byte of another block goes into any of them
+-- 02, order 3: how many blocks of a unit of n bytes can be read alone, since no byte of another goes into them: all m full ones where n is a multiple
+-- of 16, and else all but the last of them
 unfoldable pub alone : ℕ → ℕ
 alone n = cond (eqb (n % 16) 0) (n / 16) (n / 16 - 1)
 
@@ -21,12 +21,12 @@ module _ (f : List ℕ → List ℕ) where
   unfoldable pub xtsBlock : List ℕ → List ℕ → List ℕ
   xtsBlock T P = f (P ⊕ T) ⊕ T
 
-  -- 5.3.2 and 5.4.2, the loop: block q has the tweak of number q, T doubled q times (step 1 of 5.3.1: T times alpha^q)
+  -- 5.3.2 and 5.4.2, the loop: block q has T doubled q times, which is T times alpha^q (5.3.1, step 1)
   unfoldable pub xtsBlocks : List ℕ → List (List ℕ) → List (List ℕ)
   xtsBlocks T [] = []
   xtsBlocks T (P ∷ Ps) = xtsBlock T P ∷ xtsBlocks (double T) Ps
 
-  -- 5.3.2 and 5.4.2, ciphertext stealing: the last full block and the bytes after it, under the tweak that comes first and the one that comes second
+  -- 5.3.2 and 5.4.2, ciphertext stealing: the last full block and the bytes after it, under one tweak first and then another
   module _ (first second Pm-1 Pm : List ℕ) where
     abbrev pub CC : List ℕ  -- the full block under the first tweak
     CC = xtsBlock first Pm-1
@@ -37,7 +37,7 @@ module _ (f : List ℕ → List ℕ) where
     abbrev pub CP : List ℕ  -- and the bytes after those, which are stolen
     CP = drop (length Pm) CC
 
-    abbrev pub PP : List ℕ
+    abbrev pub PP : List ℕ  -- Pm, filled up with them
     PP = Pm ++ CP
 
     unfoldable pub stolen : List ℕ  -- Cm-1, then Cm

@@ -1,6 +1,5 @@
 -- `unit::unit` meets its contract: the blocks that can be read alone, and what is left, each in its part of the unit.
 -- Assumes nothing.
-use mathlib.Core.Path.{_≡_, ap, _∙_}
 use mathlib.Core.List.{List}
 use Prim.Native.Nat.{ℕ, _*_, _-_, _≤_}
 use native.Mathlib.Omega.{arith}
