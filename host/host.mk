@@ -54,6 +54,7 @@ $(HOST_OUT)/example: host/c/example.c $(HOST_HEADER) $(HOST_LIBRARY)
 
 include host/desk.mk
 include host/install.mk
+include host/secret.mk
 include host/lessons.mk
 include host/dist.mk
 include host/fuzz.mk

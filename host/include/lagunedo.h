@@ -57,8 +57,13 @@
  * as by a loss of power, is not said. lagunedo_file.h replaces a store file
  * whole for that reason.
  *
- * The time a call takes is not claimed to be independent of its input: AES
- * reads tables at places that depend on the key and on the data.
+ * The time a call takes is not proved to be independent of its input. No
+ * table is read at a place that depends on a key, a message or a text, and no
+ * branch depends on one: AES works its substitution out by the field's rule,
+ * in gates. That is checked in the machine code, which is searched for the
+ * tables and run under valgrind's memcheck with these bytes hidden, and is
+ * not proved. The time may show lengths, the leads and free slots of a store,
+ * the sheet, revision and place that are asked for, and what is answered.
  *
  * Keys are neither made nor kept here. Working copies of a key on the stack
  * are not claimed to be erased.

@@ -18,7 +18,7 @@ PEERS_PLACES := 16 32 48 64
 # endian.h asks for more than C99.
 PEERS_CFLAGS := $(HOST_CFLAGS) -O3 -fno-tree-slp-vectorize -D_DEFAULT_SOURCE
 
-.PHONY: host-bench peers-programs
+.PHONY: host-bench peers-programs host-versions versions-before
 
 host-bench:
 	PEERS_PLACES='$(PEERS_PLACES)' host/peers/run
@@ -35,3 +35,23 @@ $(PEERS_OUT)/eme: $(PEERS_GO)
 	@mkdir -p $(PEERS_OUT)
 	GO111MODULE=off GOPATH=/usr/share/gocode \
 	    GOCACHE=$(CURDIR)/$(PEERS_OUT)/go-cache go build -o $@ ./host/peers/eme
+
+# make bench-versions BEFORE=FOLDER: this build of the library beside the one whose liblagunedo.a and libprobe.a stand in the folder, in one run.
+# The folder is an absolute path, or goes by the root of the repository.
+VERSIONS_SOURCES := host/peers/versions/main.c $(patsubst %,host/peers/%.c,ciphers eme2 ours timed) host/c/fill.c host/peers/place.S
+VERSIONS_PROGRAMS := $(foreach build,before after,$(PEERS_PLACES:%=$(PEERS_OUT)/$(build)-%))
+
+host-versions: versions-before $(VERSIONS_PROGRAMS)
+	@PEERS_PLACES='$(PEERS_PLACES)' host/peers/versions/run
+
+versions-before:
+	@[ -f '$(BEFORE)/libprobe.a' ] || { echo "BEFORE=FOLDER has to name the libraries of an earlier build" >&2; exit 1; }
+
+# Which folder it was the last time is not known, so these are linked anew.
+$(PEERS_OUT)/before-%: versions-before $(VERSIONS_SOURCES) $(PEERS_HEADERS)
+	@mkdir -p $(PEERS_OUT)
+	@$(CC) $(PEERS_CFLAGS) -DPLACE=$* -Ihost/include -Ihost/c -Ihost/peers -o $@ $(VERSIONS_SOURCES) $(BEFORE)/liblagunedo.a $(BEFORE)/libprobe.a
+
+$(PEERS_OUT)/after-%: $(VERSIONS_SOURCES) $(PEERS_HEADERS) $(PEERS_LIBRARIES)
+	@mkdir -p $(PEERS_OUT)
+	@$(CC) $(PEERS_CFLAGS) -DPLACE=$* -Ihost/include -Ihost/c -Ihost/peers -o $@ $(VERSIONS_SOURCES) $(PEERS_LIBRARIES)

@@ -3,6 +3,8 @@
 //     e KEY BLOCK     enciphers: the call's number and the block afterwards
 //     d KEY BLOCK     deciphers, likewise
 //     s KEY           sets the key up: 0 and the last word of the schedule, or 1 where AES does not take the key
+//     f               the substitution of all 256 bytes: what the running code makes of them, and what the table has
+//     b               likewise the inverse substitution
 //
 // KEY and BLOCK are in hex, of at most 64 bytes, and may be empty; one blank stands before each.
 use libc::STDIN_FILENO;
@@ -55,6 +57,14 @@ fn answer(kind: u8, key: &[u8], block: &mut [u8]) {
         set_up(key);
         return;
     }
+    if kind == b'f' {
+        substitutions(false);
+        return;
+    }
+    if kind == b'b' {
+        substitutions(true);
+        return;
+    }
     if kind == b'd' {
         print_number(aes::decipher(key, block));
         print_bytes(block);
@@ -79,6 +89,43 @@ fn set_up(key: &[u8]) {
     print_byte(last[13]);
     print_byte(last[14]);
     print_byte(last[15]);
+}
+
+// The substitution of all bytes, or with `back` its inverse: by the running code, then by the table.
+fn substitutions(back: bool) {
+    let mut worked = [0u8; 256];
+    count_up(&mut worked);
+    let mut looked = worked;
+    work_out(back, &mut worked);
+    look_up(back, &mut looked);
+    print_bytes(&worked);
+    io::write_all(STDOUT_FILENO, b" ");
+    print_bytes(&looked);
+}
+
+// 0, 1, 2 and so on, past 255 from 0 again.
+fn count_up(s: &mut [u8]) {
+    let mut i = 0;
+    while i < s.len() {
+        s[i] = (i % 256) as u8;
+        i += 1;
+    }
+}
+
+fn work_out(back: bool, s: &mut [u8]) {
+    if back {
+        sbox::inv_sub_all(s)
+    } else {
+        sbox::sub_all(s)
+    }
+}
+
+fn look_up(back: bool, s: &mut [u8]) {
+    if back {
+        tables::inv_sub_all(s)
+    } else {
+        tables::sub_all(s)
+    }
 }
 
 fn print_number(a: Answer) {

@@ -7,6 +7,7 @@ use Prim.Native.Nat.{ℕ}
 use lib.Dec.{eqb, ltb}
 use lib.ListN.{length}
 use Rattle.block.specs.Blocks.{onBlocks}
+use Rattle.sbox.specs.Sub.{sub, invSub}
 use Rattle.aes.specs.Aes.{keySize, aes}
 use Rattle.mode.specs.Wide.{wide}
 
@@ -30,3 +31,14 @@ WideCalled back k L T m n m′ = (n ≡ wideNumber k L T m) × (m′ ≡ wideAft
 pub wide-determined : (back : Bool) (k L T m : List ℕ) (n n′ : ℕ) (s s′ : List ℕ)
     → WideCalled back k L T m n s → WideCalled back k L T m n′ s′ → (n ≡ n′) × (s ≡ s′)
 wide-determined back k L T m n n′ s s′ p q = (p .0 ∙ sym (q .0), p .1 ∙ sym (q .1))
+
+-- the substitution of every byte of the buffer, or its inverse
+unfoldable pub substitutedBack : Bool → List ℕ → List ℕ
+substitutedBack back s = cond back (map invSub s) (map sub s)
+
+abbrev pub SubstitutionCalled : (back : Bool) (s : List ℕ) (n : ℕ) (s′ : List ℕ) → Type 0
+SubstitutionCalled back s n s′ = (n ≡ 0) × (s′ ≡ substitutedBack back s)
+
+pub substitution-determined : (back : Bool) (s : List ℕ) (n n′ : ℕ) (t t′ : List ℕ)
+    → SubstitutionCalled back s n t → SubstitutionCalled back s n′ t′ → (n ≡ n′) × (t ≡ t′)
+substitution-determined back s n n′ t t′ p q = (p .0 ∙ sym (q .0), p .1 ∙ sym (q .1))

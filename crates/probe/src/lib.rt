@@ -1,6 +1,7 @@
 // A window for tests and benchmarks on calls that the layers use among themselves and the interface for C does not show: AES over
-// all full blocks of a buffer, and the wide block under any L and T_star. Nothing of the job server links it.
-ghost use Rattle.probe.specs.Calls.{BlocksCalled, WideCalled};
+// all full blocks of a buffer, and the wide block under any L and T_star; the substitution of bytes, as the running code has it and as it
+// is looked up in its tables. Nothing of the job server links it.
+ghost use Rattle.probe.specs.Calls.{BlocksCalled, WideCalled, SubstitutionCalled};
 
 // Enciphers, or with `back` deciphers, every full block of the buffer; the bytes after them are kept. 1 where the key is not of a
 // size that AES takes, and the buffer is then kept.
@@ -49,5 +50,31 @@ pub extern "C" fn lagunedo_probe_wide(
         block::load(t, 0),
         message,
     );
+    0
+}
+
+// The substitution of every byte of the buffer, or with `back` its inverse, as the running code has it.
+#[no_mangle]
+pub extern "C" fn lagunedo_probe_substitute(back: bool, buffer: &mut [u8]) -> u32
+    ensures { λ r. ⌜ SubstitutionCalled back (now (buffer .entry)) r (now (buffer .exit)) ⌝ }
+{
+    if back {
+        sbox::inv_sub_all(buffer);
+        return 0;
+    }
+    sbox::sub_all(buffer);
+    0
+}
+
+// The same, looked up in the tables: every byte is read from a place that depends on the byte before.
+#[no_mangle]
+pub extern "C" fn lagunedo_probe_look_up(back: bool, buffer: &mut [u8]) -> u32
+    ensures { λ r. ⌜ SubstitutionCalled back (now (buffer .entry)) r (now (buffer .exit)) ⌝ }
+{
+    if back {
+        tables::inv_sub_all(buffer);
+        return 0;
+    }
+    tables::sub_all(buffer);
     0
 }

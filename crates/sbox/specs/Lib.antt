@@ -4,3 +4,8 @@ pub mod Tables
 pub mod Sub
 pub mod Rule
 pub mod Examples
+pub mod Gates
+pub mod InverseGates
+pub mod AffineGates
+pub mod GateRule
+pub mod Directions

@@ -1,19 +1,19 @@
--- `sbox::inv_sub_all` meets its contract: the table that is lent is the one of the definition.
+-- `sbox::inv_sub_all` meets its contract: the direction is the one that it asks for.
 -- Assumes nothing.
+use Rattle.sbox.specs.Directions.{directed}
 use borrow.Author.Needs.{needs}
-use Rattle.sbox.specs.Sub.{invSub}
 use Rattle.sbox.proofs.inv_sub_all.Statement.{statement}
 use Rattle.sbox.proofs.inv_sub_all.Tie as tie
 
-all-looked-up-requires : tie.Need-all-looked-up-requires
-all-looked-up-requires c κs = search needs
+all-substituted-requires : tie.Need-all-substituted-requires
+all-substituted-requires c κs = search needs
 
 same-length : tie.Need-same-length
 same-length c = search needs
 
 returns : tie.Need-returns
-unfolding invSub
-returns c = c .before .before .all-looked-up .ensures
+unfolding directed
+returns c = c .before .before .all-substituted .ensures
 
 pub inv-sub-all-spec : {M : Type 1} → statement M
-inv-sub-all-spec = tie.close (tie.spec all-looked-up-requires same-length returns)
+inv-sub-all-spec = tie.close (tie.spec all-substituted-requires same-length returns)

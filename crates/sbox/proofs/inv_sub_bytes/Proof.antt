@@ -1,16 +1,17 @@
--- `sbox::inv_sub_bytes` meets its contract: the table that is lent is the one of the definition.
+-- `sbox::inv_sub_bytes` meets its contract: the direction is the one that it asks for.
 -- Assumes nothing.
+use Rattle.sbox.specs.Sub.{invSubBytes}
+use Rattle.sbox.specs.Directions.{directed}
 use borrow.Author.Needs.{needs}
-use Rattle.sbox.specs.Sub.{invSub, invSubBytes}
 use Rattle.sbox.proofs.inv_sub_bytes.Statement.{statement}
 use Rattle.sbox.proofs.inv_sub_bytes.Tie as tie
 
-looked-up-requires : tie.Need-looked-up-requires
-looked-up-requires c κs = search needs
+block-substituted-requires : tie.Need-block-substituted-requires
+block-substituted-requires c κs = search needs
 
 returns : tie.Need-returns
-unfolding invSub invSubBytes
-returns c = c .looked-up .ensures
+unfolding directed invSubBytes
+returns c = c .block-substituted .ensures
 
 pub inv-sub-bytes-spec : {M : Type 1} → statement M
-inv-sub-bytes-spec = tie.close (tie.spec looked-up-requires returns)
+inv-sub-bytes-spec = tie.close (tie.spec block-substituted-requires returns)

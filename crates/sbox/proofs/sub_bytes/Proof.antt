@@ -1,16 +1,17 @@
--- `sbox::sub_bytes` meets its contract: the table that is lent is the one of the definition.
+-- `sbox::sub_bytes` meets its contract: the direction is the one that it asks for.
 -- Assumes nothing.
+use Rattle.sbox.specs.Sub.{subBytes}
+use Rattle.sbox.specs.Directions.{directed}
 use borrow.Author.Needs.{needs}
-use Rattle.sbox.specs.Sub.{sub, subBytes}
 use Rattle.sbox.proofs.sub_bytes.Statement.{statement}
 use Rattle.sbox.proofs.sub_bytes.Tie as tie
 
-looked-up-requires : tie.Need-looked-up-requires
-looked-up-requires c κs = search needs
+block-substituted-requires : tie.Need-block-substituted-requires
+block-substituted-requires c κs = search needs
 
 returns : tie.Need-returns
-unfolding sub subBytes
-returns c = c .looked-up .ensures
+unfolding directed subBytes
+returns c = c .block-substituted .ensures
 
 pub sub-bytes-spec : {M : Type 1} → statement M
-sub-bytes-spec = tie.close (tie.spec looked-up-requires returns)
+sub-bytes-spec = tie.close (tie.spec block-substituted-requires returns)

@@ -21,6 +21,8 @@ extern "C" {
         message: *mut u8,
         message_length: usize,
     ) -> u32;
+    fn lagunedo_probe_substitute(back: bool, buffer: *mut u8, buffer_length: usize) -> u32;
+    fn lagunedo_probe_look_up(back: bool, buffer: *mut u8, buffer_length: usize) -> u32;
 }
 
 /// AES over all full blocks of the buffer in place, as the layer above calls
@@ -77,6 +79,21 @@ pub fn wide(key: &[u8], back: bool, l: &[u8], t: &[u8], message: &mut [u8]) -> R
         )
     };
     answer(number)
+}
+
+/// The substitution of every byte in place, or its inverse where `back` is
+/// true, as the running code works it out.
+pub fn substitute(back: bool, buffer: &mut [u8]) {
+    // SAFETY: as for the blocks, with one slice, which nothing else borrows.
+    let number = unsafe { lagunedo_probe_substitute(back, buffer.as_mut_ptr(), buffer.len()) };
+    assert_eq!(number, 0, "it is never refused");
+}
+
+/// The same, looked up in the tables that are kept for tests.
+pub fn look_up(back: bool, buffer: &mut [u8]) {
+    // SAFETY: as for the substitution.
+    let number = unsafe { lagunedo_probe_look_up(back, buffer.as_mut_ptr(), buffer.len()) };
+    assert_eq!(number, 0, "it is never refused");
 }
 
 /// What a number returned by the library means: 0 is the work done.

@@ -49,6 +49,7 @@ pub use record::Keys;
 pub use slip::Slip;
 pub use step::{step, Outcome};
 pub use store::{add, check, read, remove, revise, Checked, Counts, Found};
+pub use substitution::{inv_sub, sub};
 pub use takeover::add_xts;
 pub use xts::{xts, xts_block, UNIT};
 

@@ -1,4 +1,4 @@
--- `sbox::all_looked_up` meets its contract: after i turns the first i bytes are those of the table.
+-- `tables::all_looked_up` meets its contract: after i turns the first i bytes are those of the table.
 -- Assumes nothing.
 use mathlib.Core.Path.{_≡_, refl, sym, ap, _∙_}
 use mathlib.Core.List.{List, _++_, map}
@@ -9,8 +9,8 @@ use lib.ListN.{length, getD, take, drop, set, length-set, length-map}
 use Rattle.block.specs.Tab.{byte}
 use Rattle.block.proofs.TabLaws.{getD-map}
 use Rattle.block.proofs.BlockLaws.{fill-turn, fill-next, fill-done}
-use Rattle.sbox.proofs.all_looked_up.Statement.{statement}
-use Rattle.sbox.proofs.all_looked_up.Tie as tie
+use Rattle.tables.proofs.all_looked_up.Statement.{statement}
+use Rattle.tables.proofs.all_looked_up.Tie as tie
 
 abbrev Inv-loop : tie.InvT-loop
 Inv-loop t s₀ i₀ s i = (i ≤ length s₀) × (length s ≡ length s₀) × (s ≡ take i (map (byte t) s₀) ++ drop i s₀)

@@ -1,4 +1,4 @@
--- `sbox::looked_up` meets its contract: after i turns the first i bytes are those of the table.
+-- `tables::looked_up` meets its contract: after i turns the first i bytes are those of the table.
 -- Assumes nothing.
 use mathlib.Core.Path.{_≡_, refl, sym, ap, _∙_}
 use mathlib.Core.List.{List, _++_}
@@ -9,9 +9,9 @@ use lib.ListN.{length, take, drop, set}
 use Rattle.block.specs.Tab.{byte}
 use Rattle.block.proofs.TabLaws.{getD-tab}
 use Rattle.block.proofs.BlockLaws.{fill-turn, fill-done}
 use Rattle.sbox.specs.Sub.{lookedUp}
-use Rattle.sbox.proofs.looked_up.Statement.{statement}
-use Rattle.sbox.proofs.looked_up.Tie as tie
+use Rattle.tables.proofs.looked_up.Statement.{statement}
+use Rattle.tables.proofs.looked_up.Tie as tie
 
 abbrev Inv-loop : tie.InvT-loop
 Inv-loop t s r₀ i₀ r i = (i ≤ 16) × (length s ≡ 16) × (r ≡ take i (lookedUp 16 t s) ++ drop i s)

@@ -1,0 +1,16 @@
+-- `tables::inv_sub_bytes` meets its contract: the table that is lent is the one of the definition.
+-- Assumes nothing.
+use borrow.Author.Needs.{needs}
+use Rattle.sbox.specs.Sub.{invSub, invSubBytes}
+use Rattle.tables.proofs.inv_sub_bytes.Statement.{statement}
+use Rattle.tables.proofs.inv_sub_bytes.Tie as tie
+
+looked-up-requires : tie.Need-looked-up-requires
+looked-up-requires c κs = search needs
+
+returns : tie.Need-returns
+unfolding invSub invSubBytes
+returns c = c .looked-up .ensures
+
+pub inv-sub-bytes-spec : {M : Type 1} → statement M
+inv-sub-bytes-spec = tie.close (tie.spec looked-up-requires returns)
