@@ -57,6 +57,8 @@ $(cat blue)" ]
     holds typed.store blue305
     at_terminal typed revise typed.store 305 1 $keys
     check "revise says so too" grep -q 'reads the text until end of input' seen
+    at_terminal typed xts-block --xts-key disk32.key --unit 7 --block 0
+    check "xts-block says so of a unit" grep -q 'reads the unit until end of input' seen
 fi
 gives 0 new piped.store 1
 gives 0 add piped.store 305 $keys <blue
