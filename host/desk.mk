@@ -3,7 +3,7 @@
 
 .PHONY: host-desk
 
-host-desk: $(addprefix $(HOST_OUT)/,desk desk-stops make_record sha256 file_calls server-stops)
+host-desk: $(addprefix $(HOST_OUT)/,desk desk-stops make_record make_unit sha256 file_calls server-stops)
 	host/c/desk_test.sh $(abspath $^ $(HOST_OUT))
 
 # realpath is POSIX's, but of its X/Open part.
@@ -44,6 +44,12 @@ DESK_RECORD_FILES := host/c/desk/test/make_record.c host/c/record.c host/c/desk/
 $(HOST_OUT)/make_record: $(DESK_RECORD_FILES) $(DESK_HEADERS) $(FILE_LIBRARY) $(HOST_LIBRARY)
 	@mkdir -p $(HOST_OUT)
 	$(CC) $(DESK_CFLAGS) -o $@ $(DESK_RECORD_FILES) $(FILE_LIBRARY) $(HOST_LIBRARY)
+
+DESK_UNIT_FILES := host/c/desk/test/make_unit.c host/c/desk/number.c $(DESK_COMMON)
+
+$(HOST_OUT)/make_unit: $(DESK_UNIT_FILES) $(DESK_HEADERS) $(FILE_LIBRARY) $(HOST_LIBRARY)
+	@mkdir -p $(HOST_OUT)
+	$(CC) $(DESK_CFLAGS) -o $@ $(DESK_UNIT_FILES) $(FILE_LIBRARY) $(HOST_LIBRARY)
 
 DESK_SHA256_FILES := host/c/desk/test/sha256.c $(patsubst %,host/c/desk/%.c,sha256 fingerprint)
 

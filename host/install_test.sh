@@ -63,7 +63,7 @@ check "the header is compiled as C++" $CXX $(flags --cflags) -c -o "$work/header
 
 # The programs run, by their installed names.
 "$prefix/bin/lagunedo-desk" --help >"$work/help"
-check "the desk runs by its installed name" grep -q '^usage: lagunedo-desk COMMAND STORE' "$work/help"
+check "the desk runs by its installed name" grep -q '^usage: lagunedo-desk COMMAND \[STORE\]' "$work/help"
 check "the listing runs" [ "$("$prefix/bin/lagunedo-listing" </dev/null)" = "used 0 free 0 clear 0 old 0 new 0" ]
 
 # A job server over the file library shares a store with the installed desk; its header is C++ too.

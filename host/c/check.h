@@ -38,6 +38,9 @@ void test_store(void);
 void test_revisions(void);
 void test_refusals(void);
 void test_job(void);
+void test_xts(void);
+void test_takeover(void);
+void test_alone(void);
 void test_stack(void);
 void test_numbers(void);
 

@@ -2,11 +2,11 @@
  * desk: the sheets of a store file, at a terminal. --help is its manual.
  *
  * A run is: read the command line (desk/request.c, by the tables in
- * desk/command.c and desk/option.c), gather keys and text (desk/input.c), lock
- * and load the store (desk/store_file.c), and make the command's call
- * (desk/survey.c, desk/sheets.c, desk/begin.c, desk/rekey.c). All input is
- * read before the lock is taken, so that nobody waits for an operator who
- * types.
+ * desk/command.c and desk/option.c), gather keys and text or unit
+ * (desk/input.c), lock and load the store (desk/store_file.c), and make the
+ * command's call (desk/survey.c, desk/sheets.c, desk/begin.c, desk/rekey.c,
+ * desk/block.c). All input is read before the lock is taken, so that nobody
+ * waits for an operator who types.
  */
 
 #include <fcntl.h>
@@ -45,19 +45,35 @@ static int gather_keys(struct desk *desk)
     return DESK_DONE;
 }
 
+/* Everything but the store. */
+static int gather(struct desk *desk)
+{
+    int takes = desk->request.command->takes;
+    int status = DESK_DONE;
+
+    if ((takes & (TAKES_KEYS | TAKES_ONE_KEY)) != 0)
+        status = gather_keys(desk);
+    if (status == DESK_DONE && (takes & TAKES_UNIT) != 0)
+        status = key_read(desk->request.xts_key, &desk->xts_key);
+    if (status == DESK_DONE && (takes & TAKES_UNIT) != 0)
+        status = unit_read(&desk->unit);
+    if (status == DESK_DONE && (takes & TAKES_TEXT) != 0)
+        status = text_read(&desk->text);
+    return status;
+}
+
 static int serve(struct desk *desk)
 {
     const struct request *request = &desk->request;
     const struct command *command = request->command;
-    int status = DESK_DONE;
+    int status = gather(desk);
 
-    if ((command->takes & (TAKES_KEYS | TAKES_ONE_KEY)) != 0)
-        status = gather_keys(desk);
-    if (status == DESK_DONE && (command->takes & TAKES_TEXT) != 0)
-        status = text_read(&desk->text);
-    if (status == DESK_DONE)
-        status = store_open(&desk->store, request->store, command->purpose,
-                            request->wait);
+    if (status != DESK_DONE)
+        return status;
+    if ((command->takes & TAKES_NO_STORE) != 0)
+        return command->run(desk);
+    status = store_open(&desk->store, request->store, command->purpose,
+                        request->wait);
     if (status != DESK_DONE)
         return status;
     status = command->run(desk);

@@ -1,17 +1,18 @@
 #!/bin/sh
-# desk_test.sh DESK DESK-STOPS MAKE-RECORD SHA256 FILE-CALLS SERVER-STOPS DIRECTORY: the program desk as an operator meets it, and the file
-# library below it. The programs and the directory, in which a folder is made for the run and removed again, are absolute paths. Each part
-# of the test is a file in desk/test.
+# desk_test.sh DESK DESK-STOPS MAKE-RECORD MAKE-UNIT SHA256 FILE-CALLS SERVER-STOPS DIRECTORY: the program desk as an operator meets it, and
+# the file library below it. The programs and the directory, in which a folder is made for the run and removed again, are absolute paths.
+# Each part of the test is a file in desk/test.
 set -u
 here=$(cd "$(dirname "$0")" && pwd) || exit 2
 . "$here/../checks.sh"
 desk=$1
 stops=$2
 make_record=$3
-sha256=$4
-file_calls=$5
-server=$6
-work=$(mktemp -d "$7/desk-test.XXXXXX") || exit 2
+make_unit=$4
+sha256=$5
+file_calls=$6
+server=$7
+work=$(mktemp -d "$8/desk-test.XXXXXX") || exit 2
 trap 'rm -rf "$work"' EXIT
 cd "$work" || exit 2
 LC_ALL=C
@@ -33,6 +34,10 @@ record() { # FILE SHEET REVISION MARK TEXT [KEY]: a file with one record
     file=$1 text=$5
     set -- "$2" "$3" "$4" ${6+"$6"}
     check "a record of sheet $1" "$make_record" "$@" <"$text" >"$file"
+}
+
+unit() { # FILE KEY NUMBER TEXT: a file with one unit
+    check "unit $3 of $4" "$make_unit" "$2" "$3" <"$4" >"$1"
 }
 
 record free 0 0 0 /dev/null
@@ -92,5 +97,5 @@ refuses() { # NUMBER COMMAND STORE WORDS..
     check "no copy is made of $3" [ ! -e "$3.desk-before" ]
 }
 
-for part in commands revisions earlier refusals statuses usage files fingerprint rekey stops changeover locks terminal; do . "$here/desk/test/$part.sh"; done
+for part in commands revisions earlier refusals takeover statuses usage files fingerprint rekey stops changeover locks terminal; do . "$here/desk/test/$part.sh"; done
 all_passed desk

@@ -79,6 +79,28 @@ uint32_t store_from_cpp(const uint8_t *key, uint8_t *store, size_t length,
     return lagunedo_remove(nullptr, 0, 305);
 }
 
+uint32_t xts_from_cpp(const uint8_t *key, uint8_t *unit, uint8_t *store,
+                      size_t length)
+{
+    uint32_t (*own)(const uint8_t *, size_t, uint64_t, uint8_t *, size_t) =
+        lagunedo_xts_encipher;
+    uint8_t block[LAGUNEDO_BLOCK_SIZE];
+    uint32_t revision;
+
+    if (own(key, LAGUNEDO_XTS_KEY_256, 7, unit, LAGUNEDO_UNIT_LEAST) !=
+        LAGUNEDO_DONE)
+        return LAGUNEDO_XTS_KEY_LENGTH;
+    if ((lagunedo_xts_block)(key, 64, 7, unit, 16, 0, block) != LAGUNEDO_DONE)
+        return LAGUNEDO_BLOCK_NOT_ALONE;
+    if (lagunedo_xts_block(key, 64, 7, nullptr, 0, 0, block) !=
+        LAGUNEDO_UNIT_LENGTH)
+        return LAGUNEDO_UNIT_LENGTH;
+    if (::lagunedo_add_xts(key, 64, 7, unit, 16, key, 48, key, 48, store,
+                           length, 305, &revision) != LAGUNEDO_DONE)
+        return LAGUNEDO_SHEET_PRESENT;
+    return lagunedo_xts_decipher(nullptr, 0, 7, nullptr, 0);
+}
+
 uint32_t job_from_cpp(const uint8_t *key, uint8_t *store, size_t length)
 {
     uint32_t (*own)(lagunedo_job *, const uint8_t *, size_t, const uint8_t *,

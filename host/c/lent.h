@@ -20,11 +20,13 @@
 enum {
     STORE_KEY_MOST = 65,
     STORE_TEXT_MOST = 2097,
+    STORE_UNIT_MOST = 65537,
     STORE_MOST = 1025 * LAGUNEDO_RECORD_SIZE,
     OLD_AT = GUARD,
     NEW_AT = OLD_AT + STORE_KEY_MOST + GUARD,
-    TEXT_AT = NEW_AT + STORE_KEY_MOST + GUARD,
-    STORE_AT = TEXT_AT + STORE_TEXT_MOST + GUARD,
+    XTS_AT = NEW_AT + STORE_KEY_MOST + GUARD,
+    TEXT_AT = XTS_AT + STORE_KEY_MOST + GUARD,
+    STORE_AT = TEXT_AT + STORE_UNIT_MOST + GUARD,
     LENT_BYTES = STORE_AT + STORE_MOST + GUARD
 };
 
@@ -53,18 +55,30 @@ struct room {
 
 extern struct room now, wanted;
 
-enum call_name { CHECK, READ, ADD, REVISE, REMOVE, STEP, JOB_STEP, CALLS };
+enum call_name {
+    CHECK,
+    READ,
+    ADD,
+    REVISE,
+    REMOVE,
+    STEP,
+    JOB_STEP,
+    ADD_XTS,
+    CALLS
+};
 
 /*
  * One call: its name, the lengths of what is lent, and its numbers. It is
  * made by name, through the header's macros and with NULL for what has length
- * 0, or by the address of the library's own function.
+ * 0, or by the address of the library's own function. A conversion is lent its
+ * unit as the text.
  */
 struct call {
     enum call_name name;
     int by_address;
-    size_t old_key, new_key, store, text;
+    size_t old_key, new_key, store, text, xts_key;
     uint32_t sheet, seen;
+    uint64_t number;
 };
 
 /* A sheet; its text is made by fill from the seed. */
@@ -82,7 +96,10 @@ struct sheet {
  */
 void lend(size_t old_key, size_t new_key, size_t slots);
 
-/* A call on what was lent, with a text of no bytes and for sheet 0. */
+/*
+ * A call on what was lent, with a text of no bytes and for sheet 0; of a
+ * conversion the XTS key has 64 bytes, and the unit number 0.
+ */
 struct call call_of(enum call_name name);
 
 uint8_t *slot_of(struct room *room, size_t slot);
@@ -101,6 +118,12 @@ void hold_byte(size_t slot, size_t at, uint8_t byte);
 
 /* The text lent in both rooms, made by fill from the seed. */
 void hold_text(size_t length, uint32_t seed);
+
+/*
+ * The unit that a text made from the seed is enciphered to, lent as the text
+ * in both rooms, under the XTS key and for the number of the call.
+ */
+void hold_unit(const struct call *call, uint32_t seed);
 
 /* The number that the call returns on what the room now holds. */
 uint32_t made(const struct call *call);

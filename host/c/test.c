@@ -1,8 +1,7 @@
 /*
  * The calls for C, checked as a job server would meet them. This file counts
- * the checks; test_aes.c, test_eme2.c, test_store.c, test_refusals.c,
- * test_job.c, test_stack.c and test_numbers.c hold them, and test_lent.c
- * lends the store's calls their memory.
+ * the checks; the files of the calls below, named after them, hold them, and
+ * test_lent.c lends the store's calls their memory.
  *
  * A failed check prints a line on standard error. If all pass, the last line
  * on standard output counts them.
@@ -61,6 +60,9 @@ int main(void)
     test_revisions();
     test_refusals();
     test_job();
+    test_xts();
+    test_takeover();
+    test_alone();
     test_stack();
     test_numbers();
 

@@ -12,9 +12,10 @@ struct room now, wanted;
 /* What lend was given, and how many bytes of a room are compared. */
 static size_t lent_old, lent_new, lent_store, compared;
 
-static const char *const call_names[CALLS] = { "check",  "read",   "add",
-                                               "revise", "remove", "step",
-                                               "job_step" };
+static const char *const call_names[CALLS] = { "check",    "read",
+                                               "add",      "revise",
+                                               "remove",   "step",
+                                               "job_step", "add_xts" };
 
 void lend(size_t old_key, size_t new_key, size_t slots)
 {
@@ -39,7 +40,7 @@ void lend(size_t old_key, size_t new_key, size_t slots)
 
 struct call call_of(enum call_name name)
 {
-    struct call call = { CHECK, 0, 0, 0, 0, 0, 0, 0 };
+    struct call call = { CHECK, 0, 0, 0, 0, 0, 64, 0, 0, 0 };
 
     call.name = name;
     call.old_key = lent_old;
@@ -94,6 +95,16 @@ void hold_text(size_t length, uint32_t seed)
     fill(wanted.bytes + TEXT_AT, length, seed);
 }
 
+void hold_unit(const struct call *call, uint32_t seed)
+{
+    uint8_t *unit = now.bytes + TEXT_AT;
+
+    fill(unit, call->text, seed);
+    lagunedo_xts_encipher(now.bytes + XTS_AT, call->xts_key, call->number,
+                          unit, call->text);
+    memcpy(wanted.bytes + TEXT_AT, unit, call->text);
+}
+
 static uint8_t *null_if_empty(size_t at, size_t length)
 {
     return length == 0 ? NULL : now.bytes + at;
@@ -103,6 +114,7 @@ static uint32_t made_by_name(const struct call *c)
 {
     const uint8_t *old_key = null_if_empty(OLD_AT, c->old_key);
     const uint8_t *new_key = null_if_empty(NEW_AT, c->new_key);
+    const uint8_t *xts_key = null_if_empty(XTS_AT, c->xts_key);
     uint8_t *store = null_if_empty(STORE_AT, c->store);
     uint8_t *text = null_if_empty(TEXT_AT, c->text);
     uint32_t *word = now.word;
@@ -130,6 +142,10 @@ static uint32_t made_by_name(const struct call *c)
     case STEP:
         return lagunedo_step(old_key, c->old_key, new_key, c->new_key, store,
                              c->store, &job->place, &word[OUTCOME]);
+    case ADD_XTS:
+        return lagunedo_add_xts(xts_key, c->xts_key, c->number, text, c->text,
+                                old_key, c->old_key, new_key, c->new_key,
+                                store, c->store, c->sheet, &word[REVISION]);
     default:
         return lagunedo_job_step(job, old_key, c->old_key, new_key,
                                  c->new_key, store, c->store,
@@ -162,6 +178,11 @@ static uint32_t (*const own_job_step)(struct lagunedo_job *, const uint8_t *,
                                       size_t, const uint8_t *, size_t,
                                       uint8_t *, size_t,
                                       uint32_t *) = lagunedo_job_step;
+static uint32_t (*const own_add_xts)(const uint8_t *, size_t, uint64_t,
+                                     const uint8_t *, size_t, const uint8_t *,
+                                     size_t, const uint8_t *, size_t,
+                                     uint8_t *, size_t, uint32_t,
+                                     uint32_t *) = lagunedo_add_xts;
 
 static uint32_t made_by_address(const struct call *c)
 {
@@ -193,6 +214,10 @@ static uint32_t made_by_address(const struct call *c)
     case STEP:
         return own_step(old_key, c->old_key, new_key, c->new_key, store,
                         c->store, &job->place, &word[OUTCOME]);
+    case ADD_XTS:
+        return own_add_xts(now.bytes + XTS_AT, c->xts_key, c->number, text,
+                           c->text, old_key, c->old_key, new_key, c->new_key,
+                           store, c->store, c->sheet, &word[REVISION]);
     default:
         return own_job_step(job, old_key, c->old_key, new_key, c->new_key,
                             store, c->store, &word[OUTCOME]);

@@ -1,7 +1,7 @@
 /*
- * The numbers, names and sizes of the header, beside those of 01, which are
- * typed here once more: the header's own tables cannot tell that one of their
- * rows was changed.
+ * The numbers, names and sizes of the header, beside those of 01 and 02,
+ * which are typed here once more: the header's own tables cannot tell that one
+ * of their rows was changed.
  */
 
 #include <stdio.h>
@@ -21,7 +21,9 @@ static const struct {
     { 8, "OTHER_REVISION" }, { 9, "LAST_REVISION" },
     { 10, "NO_FREE_SLOT" },  { 11, "SHEET_PRESENT" },
     { 12, "SLOT_UNSOUND" },  { 13, "BUFFER_LENGTH" },
-    { 14, "LENGTH_CHANGED" }, { 256, "FAULT" }
+    { 14, "LENGTH_CHANGED" }, { 15, "XTS_KEY_LENGTH" },
+    { 16, "UNIT_LENGTH" },   { 17, "BLOCK_NOT_ALONE" },
+    { 256, "FAULT" }
 };
 
 static const struct {
@@ -33,7 +35,9 @@ static const struct {
     { LAGUNEDO_MESSAGE_MOST, 65536 }, { LAGUNEDO_DATA_MOST, 1024 },
     { LAGUNEDO_RECORD_SIZE, 2112 }, { LAGUNEDO_LEAD_SIZE, 16 },
     { LAGUNEDO_TEXT_LEAST, 16 },    { LAGUNEDO_TEXT_MOST, 2096 },
-    { LAGUNEDO_SLOT_LIMIT, 1024 },  { LAGUNEDO_MARK_CLEAR, 0 },
+    { LAGUNEDO_SLOT_LIMIT, 1024 },  { LAGUNEDO_XTS_KEY_128, 32 },
+    { LAGUNEDO_XTS_KEY_256, 64 },   { LAGUNEDO_UNIT_LEAST, 16 },
+    { LAGUNEDO_UNIT_MOST, 65536 },  { LAGUNEDO_MARK_CLEAR, 0 },
     { LAGUNEDO_MARK_OLD_KEY, 1 },   { LAGUNEDO_MARK_NEW_KEY, 2 },
     { LAGUNEDO_STEP_DONE, 0 },      { LAGUNEDO_STEP_FREE, 1 },
     { LAGUNEDO_STEP_DAMAGED, 2 },   { LAGUNEDO_STEP_ALREADY, 3 },

@@ -1,7 +1,7 @@
 /*
  * Every refusal of the store's calls, alone and together with every choice of
  * the others of the same call: the number returned is the first in 01's
- * order, and all lent memory is kept.
+ * order, and for a conversion in 02's before it, and all lent memory is kept.
  */
 
 #include <string.h>
@@ -14,7 +14,7 @@ enum { ASKED = 305, OTHER = 306, ABSENT = 307, FILLING = 308 };
 
 enum { LADDER = 8, VARIANTS = 8 };
 
-/* 01, "Order", of each call, up to the first 0. */
+/* 01, "Order", and 02, order 3, of each call, up to the first 0. */
 static const uint32_t ladders[CALLS][LADDER + 1] = {
     { 4 },                       /* check */
     { 1, 4, 5, 7, 12, 13 },      /* read; 14 does not occur */
@@ -22,8 +22,14 @@ static const uint32_t ladders[CALLS][LADDER + 1] = {
     { 1, 4, 5, 6, 7, 12, 8, 9 }, /* revise */
     { 4, 5, 7 },                 /* remove */
     { 1, 4 },                    /* step */
-    { 1, 4 }                     /* job_step */
+    { 1, 4 },                    /* job_step */
+    { 15, 16, 1, 4, 5, 6, 11, 10 } /* add_xts */
 };
+
+static int adds(enum call_name name)
+{
+    return name == ADD || name == ADD_XTS;
+}
 
 /* A store and a call that is not refused. */
 static struct call good_call(enum call_name name)
@@ -37,7 +43,7 @@ static struct call good_call(enum call_name name)
     hold_sheet(OTHER_SLOT, other);
     now.job[JOB].place = wanted.job[JOB].place = ASKED_SLOT;
     call = call_of(name);
-    call.sheet = name == ADD ? ABSENT : ASKED;
+    call.sheet = adds(name) ? ABSENT : ASKED;
     call.seen = 17;
     call.text = 40;
     return call;
@@ -63,9 +69,27 @@ static void spoil_store(struct call *call, size_t variant)
     call->store = lengths[variant];
 }
 
+/* A unit that is too long for a text is long enough for a unit. */
 static void spoil_text(struct call *call, size_t variant)
 {
     static const size_t lengths[VARIANTS] = { 15, 2097, 0, 1, 15, 2097, 0, 8 };
+    static const size_t units[VARIANTS] = { 2097, 2098, 2112,  4096,
+                                            9999, 2097, 65535, 65536 };
+
+    call->text = call->name == ADD_XTS ? units[variant] : lengths[variant];
+}
+
+static void spoil_xts_key(struct call *call, size_t variant)
+{
+    static const size_t lengths[VARIANTS] = { 0, 31, 33, 48, 63, 65, 16, 1 };
+
+    call->xts_key = lengths[variant];
+}
+
+static void spoil_unit(struct call *call, size_t variant)
+{
+    static const size_t lengths[VARIANTS] = { 0, 15, 65537, 1,
+                                              8, 14, 65537, 15 };
 
     call->text = lengths[variant];
 }
@@ -125,6 +149,12 @@ static void spoil(struct call *call, uint32_t number, size_t variant)
         break;
     case LAGUNEDO_SHEET_PRESENT:
         call->sheet = variant % 2 == 0 ? ASKED : OTHER;
+        break;
+    case LAGUNEDO_XTS_KEY_LENGTH:
+        spoil_xts_key(call, variant);
+        break;
+    case LAGUNEDO_UNIT_LENGTH:
+        spoil_unit(call, variant);
         break;
     case LAGUNEDO_SLOT_UNSOUND:
         flaw(ASKED_SLOT, (2 * variant + 1) % FLAWS);
@@ -188,7 +218,7 @@ static void too_large(enum call_name name)
     hold_sheet(ASKED_SLOT, asked);
     now.job[JOB].place = wanted.job[JOB].place = ASKED_SLOT;
     call = call_of(name);
-    call.sheet = name == ADD ? ABSENT : ASKED;
+    call.sheet = adds(name) ? ABSENT : ASKED;
     call.seen = 17;
     call.text = 40;
     expect(&call, LAGUNEDO_STORE_LENGTH, "1,025 slots");
@@ -205,7 +235,7 @@ static void nulls(enum call_name name)
 {
     struct call call;
     int keyed = name != CHECK && name != REMOVE;
-    int by_number = name != CHECK && name < STEP;
+    int by_number = name != CHECK && name != STEP && name != JOB_STEP;
 
     if (keyed) {
         call = good_call(name);
@@ -215,20 +245,28 @@ static void nulls(enum call_name name)
         call.new_key = 0;
         expect(&call, LAGUNEDO_KEY_LENGTH, "no new key");
         call.old_key = call.store = call.text = 0;
-        expect(&call, LAGUNEDO_KEY_LENGTH, "nothing lent");
+        expect(&call,
+               name == ADD_XTS ? LAGUNEDO_UNIT_LENGTH : LAGUNEDO_KEY_LENGTH,
+               "nothing lent");
+    }
+    if (name == ADD_XTS) {
+        call.xts_key = 0;
+        expect(&call, LAGUNEDO_XTS_KEY_LENGTH, "no XTS key either");
     }
     if (by_number) {
         call = good_call(name);
         call.store = 0;
         expect(&call,
-               name == ADD ? LAGUNEDO_NO_FREE_SLOT : LAGUNEDO_NO_SHEET,
+               adds(name) ? LAGUNEDO_NO_FREE_SLOT : LAGUNEDO_NO_SHEET,
                "no store");
     }
     if (by_number && name != REMOVE) {
         call = good_call(name);
         call.text = 0;
         expect(&call,
-               name == READ ? LAGUNEDO_BUFFER_LENGTH : LAGUNEDO_TEXT_LENGTH,
+               name == READ      ? LAGUNEDO_BUFFER_LENGTH
+               : name == ADD_XTS ? LAGUNEDO_UNIT_LENGTH
+                                 : LAGUNEDO_TEXT_LENGTH,
                "no text");
     }
 }

@@ -19,6 +19,7 @@ enum { STORE = LAGUNEDO_SLOT_LIMIT * LAGUNEDO_RECORD_SIZE };
 
 static uint8_t stack[STACK], sheets[STORE], text[LAGUNEDO_TEXT_MOST];
 static uint8_t message[LAGUNEDO_MESSAGE_MOST], keys[2][64], lead[16];
+static uint8_t block[LAGUNEDO_BLOCK_SIZE];
 static uint32_t number, values[6];
 static uint64_t place;
 static ucontext_t here, there;
@@ -102,6 +103,32 @@ static void job_step(void)
                                sizeof sheets, &values[0]);
 }
 
+static void xts_encipher(void)
+{
+    number = lagunedo_xts_encipher(keys[1], 64, 305, message,
+                                   sizeof message - 1);
+}
+
+static void xts_decipher(void)
+{
+    number = lagunedo_xts_decipher(keys[1], 64, 305, message,
+                                   sizeof message - 1);
+}
+
+/* The last block, for which k is halved the most often. */
+static void xts_block(void)
+{
+    number = lagunedo_xts_block(keys[1], 64, 305, message, sizeof message,
+                                sizeof message / 16 - 1, block);
+}
+
+static void add_xts(void)
+{
+    number = lagunedo_add_xts(keys[1], 64, 305, message, sizeof text, keys[0],
+                              48, keys[1], 64, sheets, sizeof sheets, 8,
+                              &values[0]);
+}
+
 static void remove_sheet(void)
 {
     number = lagunedo_remove(sheets, sizeof sheets, 7);
@@ -137,6 +164,8 @@ static const struct {
     { "read", read },         { "revise", revise },     { "check", check },
     { "step", step },         { "converting step", convert },
     { "job step", job_step }, { "converting job step", job_convert },
+    { "xts encipher", xts_encipher }, { "xts decipher", xts_decipher },
+    { "xts block", xts_block }, { "add xts", add_xts },
     { "remove", remove_sheet }
 };
 

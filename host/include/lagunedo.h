@@ -3,10 +3,11 @@
  *
  * This header is the manual. It holds AES-128 and AES-256, one block at a
  * time, as FIPS 197 defines them; EME2-AES, which enciphers whole messages,
- * as source document 000 defines it; and the sheet store with its rekeying
- * job, as 01 defines them, with revisions as order 1 of 02 has them. 000 is
- * "The EME2-AES Transform", 01 "The scope of work and its rules", and 02
- * "Requested changes after the base".
+ * as source document 000 defines it; the sheet store with its rekeying job,
+ * as 01 defines them, with revisions as order 1 of 02 has them; and XTS-AES,
+ * as IEEE 1619-2007 defines it, to take over sheets that are under it (order
+ * 3 of 02). 000 is "The EME2-AES Transform", 01 "The scope of work and its
+ * rules", and 02 "Requested changes after the base".
  *
  * It needs C99 or C++11, or a later version of either, and x86-64 Linux, for
  * which the library is compiled.
@@ -18,8 +19,8 @@
  * need no alignment. NULL is allowed if the length is 0, and only then.
  *
  * What a call gives beside the number it returns is written behind pointers
- * to the caller's own uint32_t, uint64_t or struct lagunedo_job. These are
- * aligned as their type asks, and never NULL.
+ * to the caller's own uint32_t, uint64_t or struct lagunedo_job, or to 16
+ * bytes for a block. These are aligned as their type asks, and never NULL.
  *
  * Memory that a call overwrites must not overlap any other lent to it, not
  * even in one byte; what is only read may.
@@ -47,10 +48,10 @@
  *
  * What is not offered
  *
- * The cipher does not detect forgery. Deciphering bytes that were changed,
- * or deciphering under a wrong key or with wrong associated data, returns 0
- * and gives other bytes. The store does not detect it either: what
- * lagunedo_check finds is faults of layout.
+ * Neither cipher detects forgery. Deciphering bytes that were changed, or
+ * deciphering under a wrong key, with wrong associated data or for another
+ * number of a unit, returns 0 and gives other bytes. The store does not
+ * detect it either: what lagunedo_check finds is faults of layout.
  *
  * A call is whole. What a store holds after a call that was cut off half way,
  * as by a loss of power, is not said. lagunedo_file.h replaces a store file
@@ -86,7 +87,8 @@ extern "C" {
  *
  * 1 to 14 are those of 01, and none changes its meaning; which revision is the
  * last, for 9, is 02's to say. 14 is never returned, since deciphering keeps
- * the length. 0 and 256 are no refusals.
+ * the length. 15 to 17 are those of 02's order 3, and only the calls of
+ * XTS-AES return them. 0 and 256 are no refusals.
  *
  * LAGUNEDO_REFUSALS and LAGUNEDO_NUMBERS are the one table of their names and
  * meanings: the macro X that they are given gets a row after the other.
@@ -110,7 +112,14 @@ extern "C" {
     X(LAGUNEDO_SHEET_PRESENT, 11, "the sheet number is already in a slot") \
     X(LAGUNEDO_SLOT_UNSOUND, 12, "the slot found is unsound") \
     X(LAGUNEDO_BUFFER_LENGTH, 13, "the buffer is shorter than the text") \
-    X(LAGUNEDO_LENGTH_CHANGED, 14, "the text length changed in deciphering")
+    X(LAGUNEDO_LENGTH_CHANGED, 14, \
+      "the text length changed in deciphering") \
+    X(LAGUNEDO_XTS_KEY_LENGTH, 15, \
+      "an XTS key is not 32 or 64 bytes long") \
+    X(LAGUNEDO_UNIT_LENGTH, 16, \
+      "a unit is below 16 or above 65,536 bytes") \
+    X(LAGUNEDO_BLOCK_NOT_ALONE, 17, \
+      "the block cannot be read alone: past the end, or tied to odd bytes")
 
 /* These, and the two that are no refusals. */
 #define LAGUNEDO_NUMBERS(X) \
@@ -158,6 +167,10 @@ enum lagunedo_size {
     LAGUNEDO_TEXT_LEAST = 16,
     LAGUNEDO_TEXT_MOST = 2096,
     LAGUNEDO_SLOT_LIMIT = 1024,
+    LAGUNEDO_XTS_KEY_128 = 32, /* of XTS-AES */
+    LAGUNEDO_XTS_KEY_256 = 64,
+    LAGUNEDO_UNIT_LEAST = 16,
+    LAGUNEDO_UNIT_MOST = 65536,
     LAGUNEDO_STACK_MOST = 8192
 };
 
@@ -608,6 +621,145 @@ uint32_t lagunedo_job_step(struct lagunedo_job *job, const uint8_t *old_key,
                            size_t store_length, uint32_t *outcome);
 
 /*
+ * Taking over sheets under XTS-AES
+ *
+ * New plants come with sheets under XTS-AES, as disks have it. The calls below
+ * are there to take these over, and to make such units where one is needed,
+ * as for a test. Nothing that the store keeps is under XTS-AES.
+ *
+ * A unit is 16 to 65,536 bytes and has a number of 64 bits, the standard's
+ * data unit number. The number's 8 bytes, the low one first, and 8 zeros are
+ * the block from which the unit's tweak is made. A key is exactly 32 bytes for
+ * AES-128 or 64 bytes for AES-256: its first half enciphers the blocks, and
+ * its second half the tweak. Equal halves are taken, as the standard's first
+ * vector has them; a good key does not have them.
+ *
+ * A unit is cut into blocks of 16 bytes, counted from 0. What is left at its
+ * end, 1 to 15 odd bytes, steals from the last full block (ciphertext
+ * stealing): the two are enciphered together, and a unit keeps its length.
+ *
+ * XTS-AES gives less than EME2-AES. Each block is enciphered by itself, under
+ * its own tweak: who sees two versions of a unit sees which blocks differ,
+ * and who can write to it can exchange blocks between the two. EME2-AES mixes
+ * the whole message into every block. Neither detects forgery.
+ */
+
+/*
+ * Enciphers a unit with XTS-AES (IEEE 1619-2007, 5.3.2) in place.
+ *
+ *   key, key_length          32 bytes for AES-128 or 64 bytes for AES-256;
+ *                            read
+ *   number                   the unit's number; any
+ *   unit, unit_length        16 to 65,536 bytes, whole blocks or not; read,
+ *                            then overwritten with the result, which has the
+ *                            same length
+ *
+ * Refusals, in this order:
+ *   LAGUNEDO_XTS_KEY_LENGTH  key_length is neither 32 nor 64
+ *   LAGUNEDO_UNIT_LENGTH     unit_length is below 16 or above 65,536
+ *
+ * No other memory of the caller is read or written, and the key is never
+ * written.
+ *
+ * Made again: LAGUNEDO_DONE, and the unit is enciphered a second time, of
+ * which nothing shows; deciphering it once gives the first result back.
+ */
+uint32_t lagunedo_xts_encipher(const uint8_t *key, size_t key_length,
+                               uint64_t number, uint8_t *unit,
+                               size_t unit_length);
+
+/*
+ * Deciphers a unit with XTS-AES (IEEE 1619-2007, 5.4.2) in place: it undoes
+ * lagunedo_xts_encipher under the same key and number, and is undone by it.
+ *
+ * Parameters, refusals and memory are those of lagunedo_xts_encipher. There
+ * is no sign of a wrong key, of another unit's number or of changed bytes:
+ * the call returns LAGUNEDO_DONE, and the unit then holds other bytes.
+ *
+ * Made again: LAGUNEDO_DONE, and the unit is deciphered a second time, of
+ * which nothing shows; enciphering it once gives the first result back.
+ */
+uint32_t lagunedo_xts_decipher(const uint8_t *key, size_t key_length,
+                               uint64_t number, uint8_t *unit,
+                               size_t unit_length);
+
+/*
+ * Reads one block of an enciphered unit: the 16 bytes that stand at its place
+ * in the deciphered unit. The unit is kept.
+ *
+ *   key, key_length          32 or 64 bytes; read
+ *   number                   the unit's number; any
+ *   unit, unit_length        16 to 65,536 bytes, enciphered; block k of it is
+ *                            read, and nothing else
+ *   k                        the block, counted from 0; any number may be
+ *                            given
+ *   block                    16 bytes; written
+ *
+ * Refusals, in this order:
+ *   LAGUNEDO_XTS_KEY_LENGTH   key_length is neither 32 nor 64
+ *   LAGUNEDO_UNIT_LENGTH      unit_length is below 16 or above 65,536
+ *   LAGUNEDO_BLOCK_NOT_ALONE  with f full blocks in the unit, k is not below
+ *                             f if unit_length is a multiple of 16, or else
+ *                             not below f - 1
+ *
+ * The blocks before it are not deciphered: its mask is found by halving k, so
+ * that a late block takes little longer than an early one. Of a unit with odd
+ * bytes at its end, these and the last full block were enciphered together
+ * and cannot be read so; lagunedo_xts_decipher gives them.
+ *
+ * Made again: the same, as long as the unit is.
+ */
+uint32_t lagunedo_xts_block(const uint8_t *key, size_t key_length,
+                            uint64_t number, const uint8_t *unit,
+                            size_t unit_length, uint64_t k,
+                            uint8_t block[LAGUNEDO_BLOCK_SIZE]);
+
+/*
+ * Takes a sheet over: adds what a unit deciphers to as a sheet that the store
+ * does not have yet, as lagunedo_add adds a text. The unit is kept, refused or
+ * not.
+ *
+ *   xts_key, xts_key_length  32 or 64 bytes; read
+ *   number                   the unit's number; any
+ *   unit, unit_length        an enciphered unit; its text, of the same
+ *                            length, is to have 16 to 2,096 bytes; read
+ *   old_key, old_key_length  48 or 64 bytes; only the length matters
+ *   new_key, new_key_length  48 or 64 bytes; read
+ *   store, store_length      0 to 1,024 records of 2,112 bytes; one slot is
+ *                            written
+ *   sheet                    the sheet number, not 0
+ *   revision                 the revision now stored, 1; written
+ *
+ * Refusals, in this order:
+ *   LAGUNEDO_XTS_KEY_LENGTH  xts_key_length is neither 32 nor 64
+ *   LAGUNEDO_UNIT_LENGTH     unit_length is below 16 or above 65,536
+ *   LAGUNEDO_KEY_LENGTH      old_key_length or new_key_length is neither 48
+ *                            nor 64
+ *   LAGUNEDO_STORE_LENGTH    store_length is not a multiple of 2,112, or is
+ *                            above 1,024 times that
+ *   LAGUNEDO_SHEET_ZERO      sheet is 0
+ *   LAGUNEDO_TEXT_LENGTH     unit_length is above 2,096
+ *   LAGUNEDO_SHEET_PRESENT   a slot has the sheet number
+ *   LAGUNEDO_NO_FREE_SLOT    no slot has sheet number 0
+ *
+ * The store is then as lagunedo_add leaves it: the text, enciphered under the
+ * new key, is in the lowest slot whose sheet number was 0. Nothing shows that
+ * the XTS key or the number is the wrong one: other bytes are then stored. So
+ * the unit is to be kept until the sheet was read.
+ *
+ * Made again: LAGUNEDO_SHEET_PRESENT, as long as the sheet is there. It is
+ * the answer too if somebody else added the sheet; reading the sheet tells
+ * which. If the sheet was removed since, it is added once more.
+ */
+uint32_t lagunedo_add_xts(const uint8_t *xts_key, size_t xts_key_length,
+                          uint64_t number, const uint8_t *unit,
+                          size_t unit_length, const uint8_t *old_key,
+                          size_t old_key_length, const uint8_t *new_key,
+                          size_t new_key_length, uint8_t *store,
+                          size_t store_length, uint32_t sheet,
+                          uint32_t *revision);
+
+/*
  * NULL with length 0
  *
  * The library's own slices are never null. The macros below let the calls
@@ -759,6 +911,53 @@ static inline uint32_t lagunedo_lent_job_step(
         lagunedo_lent_out(store, store_length), store_length, outcome);
 }
 
+static inline uint32_t lagunedo_lent_xts_encipher(const uint8_t *key,
+                                                  size_t key_length,
+                                                  uint64_t number,
+                                                  uint8_t *unit,
+                                                  size_t unit_length)
+{
+    return lagunedo_xts_encipher(
+        lagunedo_lent_in(key, key_length), key_length, number,
+        lagunedo_lent_out(unit, unit_length), unit_length);
+}
+
+static inline uint32_t lagunedo_lent_xts_decipher(const uint8_t *key,
+                                                  size_t key_length,
+                                                  uint64_t number,
+                                                  uint8_t *unit,
+                                                  size_t unit_length)
+{
+    return lagunedo_xts_decipher(
+        lagunedo_lent_in(key, key_length), key_length, number,
+        lagunedo_lent_out(unit, unit_length), unit_length);
+}
+
+static inline uint32_t lagunedo_lent_xts_block(
+    const uint8_t *key, size_t key_length, uint64_t number,
+    const uint8_t *unit, size_t unit_length, uint64_t k,
+    uint8_t block[LAGUNEDO_BLOCK_SIZE])
+{
+    return lagunedo_xts_block(
+        lagunedo_lent_in(key, key_length), key_length, number,
+        lagunedo_lent_in(unit, unit_length), unit_length, k, block);
+}
+
+static inline uint32_t lagunedo_lent_add_xts(
+    const uint8_t *xts_key, size_t xts_key_length, uint64_t number,
+    const uint8_t *unit, size_t unit_length, const uint8_t *old_key,
+    size_t old_key_length, const uint8_t *new_key, size_t new_key_length,
+    uint8_t *store, size_t store_length, uint32_t sheet, uint32_t *revision)
+{
+    return lagunedo_add_xts(
+        lagunedo_lent_in(xts_key, xts_key_length), xts_key_length, number,
+        lagunedo_lent_in(unit, unit_length), unit_length,
+        lagunedo_lent_in(old_key, old_key_length), old_key_length,
+        lagunedo_lent_in(new_key, new_key_length), new_key_length,
+        lagunedo_lent_out(store, store_length), store_length, sheet,
+        revision);
+}
+
 /* Variadic, so that an argument may be a compound literal with commas. */
 #define lagunedo_aes_encipher(...) lagunedo_lent_aes_encipher(__VA_ARGS__)
 #define lagunedo_aes_decipher(...) lagunedo_lent_aes_decipher(__VA_ARGS__)
@@ -771,6 +970,10 @@ static inline uint32_t lagunedo_lent_job_step(
 #define lagunedo_remove(...) lagunedo_lent_remove(__VA_ARGS__)
 #define lagunedo_step(...) lagunedo_lent_step(__VA_ARGS__)
 #define lagunedo_job_step(...) lagunedo_lent_job_step(__VA_ARGS__)
+#define lagunedo_xts_encipher(...) lagunedo_lent_xts_encipher(__VA_ARGS__)
+#define lagunedo_xts_decipher(...) lagunedo_lent_xts_decipher(__VA_ARGS__)
+#define lagunedo_xts_block(...) lagunedo_lent_xts_block(__VA_ARGS__)
+#define lagunedo_add_xts(...) lagunedo_lent_add_xts(__VA_ARGS__)
 
 #ifdef __cplusplus
 }

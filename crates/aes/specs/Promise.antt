@@ -16,6 +16,13 @@ use Rattle.aes.specs.Aes.{keySize, Nr, roundKeys, crypted, aes}
 pub key-bounds : (n : ℕ) → keySize n ≡ true → (16 ≤ n) × (n ≤ 32)
 key-bounds n e = omega (arith, key-sizes n e)
 
+-- keys of 16 and 32 bytes are taken, whatever others are
+pub taken-16 : keySize 16 ≡ true
+taken-16 = refl
+
+pub taken-32 : keySize 32 ≡ true
+taken-32 = refl
+
 -- `crypt`, and `crypt_blocks` of each block, gives 16 bytes, whatever the round keys, their number and the block
 pub length-crypted : (back : Bool) (keys : List (List ℕ)) (nr : ℕ) (b : List ℕ) → length (crypted back keys nr b) ≡ 16
 length-crypted back keys nr b = length-of-cipher back keys nr b

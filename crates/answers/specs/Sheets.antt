@@ -23,6 +23,8 @@ use Rattle.store.specs.declared.Stepped.{Stepped}
 use Rattle.store.specs.declared.Stepped.the-variants as stepped
 use Rattle.store.specs.Calls.{readAnswer, readBuffer, addAnswer, addStore, reviseAnswer, reviseStore, removeAnswer, removeStore}
 use Rattle.store.specs.Calls.{stepAnswer, placeAfter, stepStore}
+use Rattle.store.specs.Conversions.{Source, convertAnswer, convertStore}
+use Rattle.takeover.specs.Sources.{xtsSource}
 
 -- ---- check: 0 with the five counts, or 256 with the lowest faulty slot, or 4
 
@@ -122,6 +124,23 @@ AddForC o w s i t v n s′ v′ =
 pub add-determined : (o w s : List ℕ) (i : ℕ) (t : List ℕ) (v n m : ℕ) (a b : List ℕ) (x y : ℕ)
     → AddForC o w s i t v n a x → AddForC o w s i t v m b y → (n ≡ m) × (a ≡ b) × (x ≡ y)
 add-determined o w s i t v n m a b x y p q = (p .0 ∙ sym (q .0), p .1 ∙ sym (q .1), p .2 ∙ sym (q .2))
+
+-- a sheet from elsewhere, which comes to the source x before add's own tests (`store`, specs/Conversions)
+abbrev pub ConvertForC : (o w s : List ℕ) (i : ℕ) (x : Source) (v : ℕ) (n : ℕ) (s′ : List ℕ) (v′ : ℕ) → Type 0
+ConvertForC o w s i x v n s′ v′ =
+    (n ≡ storedNumber (convertAnswer o w s i x)) × (s′ ≡ convertStore o w s i x) × (v′ ≡ revisionOr v (convertAnswer o w s i x))
+
+pub convert-determined : (o w s : List ℕ) (i : ℕ) (x : Source) (v n m : ℕ) (a b : List ℕ) (y z : ℕ)
+    → ConvertForC o w s i x v n a y → ConvertForC o w s i x v m b z → (n ≡ m) × (a ≡ b) × (y ≡ z)
+convert-determined o w s i x v n m a b y z p q = (p .0 ∙ sym (q .0), p .1 ∙ sym (q .1), p .2 ∙ sym (q .2))
+
+-- from the data unit u with number d, under the XTS key k
+abbrev pub AddXtsForC : (k : List ℕ) (d : ℕ) (u o w s : List ℕ) (i v : ℕ) (n : ℕ) (s′ : List ℕ) (v′ : ℕ) → Type 0
+AddXtsForC k d u o w s i v n s′ v′ = ConvertForC o w s i (xtsSource k d u) v n s′ v′
+
+pub add-xts-determined : (k : List ℕ) (d : ℕ) (u o w s : List ℕ) (i v n m : ℕ) (a b : List ℕ) (y z : ℕ)
+    → AddXtsForC k d u o w s i v n a y → AddXtsForC k d u o w s i v m b z → (n ≡ m) × (a ≡ b) × (y ≡ z)
+add-xts-determined k d u o w s i v n m a b y z p q = (p .0 ∙ sym (q .0), p .1 ∙ sym (q .1), p .2 ∙ sym (q .2))
 
 abbrev pub ReviseForC : (o w s : List ℕ) (i seen : ℕ) (t : List ℕ) (v : ℕ) (n : ℕ) (s′ : List ℕ) (v′ : ℕ) → Type 0
 ReviseForC o w s i seen t v n s′ v′ =

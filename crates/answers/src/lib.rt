@@ -1,7 +1,8 @@
 // What the store's calls answer, as numbers by value: 01's number, and for each pointer of the call what is to stand behind it. The calls for C
 // then only write them there.
 ghost use mathlib.Core.Path.{_≡_};
-ghost use Rattle.answers.specs.Sheets.{CheckedForC, ReadForC, AddForC, ReviseForC, RemoveForC, outcomeNumber, StepForC, storedNumber, revisionOr};
+ghost use Rattle.answers.specs.Sheets.{CheckedForC, ReadForC, AddForC, AddXtsForC, ReviseForC, RemoveForC, StepForC};
+ghost use Rattle.answers.specs.Sheets.{outcomeNumber, storedNumber, revisionOr};
 use checking::Checked;
 use numbers::number;
 use store::Outcome;
@@ -146,6 +147,25 @@ pub fn add(old: &[u8], new: &[u8], store: &mut [u8], sheet: u32, text: &[u8], v:
         (r .revision) ⌝ }
 {
     stored(store::add(old, new, store, sheet, text), v)
+}
+
+pub fn add_xts(
+    key: &[u8],
+    number: u64,
+    unit: &[u8],
+    old: &[u8],
+    new: &[u8],
+    store: &mut [u8],
+    sheet: u32,
+    v: u32,
+) -> StoreValues
+    ensures { λ r. ⌜ AddXtsForC (now (key .entry)) number (now (unit .entry)) (now (old .entry)) (now (new .entry)) (now (store .entry)) sheet v
+        (r .number) (now (store .exit)) (r .revision) ⌝ }
+{
+    stored(
+        takeover::add_xts(key, number, unit, old, new, store, sheet),
+        v,
+    )
 }
 
 pub fn revise(

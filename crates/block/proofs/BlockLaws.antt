@@ -118,7 +118,7 @@ on-group f n at s s′ h k e =
 length-blocks-drop : (n : ℕ) (l : List ℕ) → 16 * suc n ≤ length l → 16 * n ≤ length (drop 16 l)
 length-blocks-drop n l h = omega (arith, length-drop 16 l)
 
-join-blocks-take : (n : ℕ) (l : List ℕ) → 16 * n ≤ length l → join (blocks n l) ++ drop (16 * n) l ≡ l
+pub join-blocks-take : (n : ℕ) (l : List ℕ) → 16 * n ≤ length l → join (blocks n l) ++ drop (16 * n) l ≡ l
 unfolding blocks join
 join-blocks-take zero l h = refl
 join-blocks-take (suc n) l h =
@@ -136,10 +136,19 @@ join-blocks l =
 pub length-rest : (l : List ℕ) → length (rest l) < 16
 length-rest l = omega (arith, length-drop (full l * 16) l)
 
+pub length-blocks : (n : ℕ) (l : List ℕ) → length (blocks n l) ≡ n
+unfolding blocks
+length-blocks zero l = refl
+length-blocks (suc n) l = ap suc (length-blocks n (drop 16 l))
+
 -- blocks of 16, put together with a short rest, are what the whole is split into
 abbrev pub Sized : List (List ℕ) → Type 0
 Sized [] = Unit {0}
 Sized (b ∷ bs) = (length b ≡ 16) × Sized bs
+
+pub sized-map : (f : List ℕ → List ℕ) → ((x : List ℕ) → length (f x) ≡ 16) → (bs : List (List ℕ)) → Sized (map f bs)
+sized-map f size [] = tt
+sized-map f size (b ∷ bs) = (size b, sized-map f size bs)
 
 pub blocks-join : (bs : List (List ℕ)) (s : List ℕ) → Sized bs → blocks (length bs) (join bs ++ s) ≡ bs
 unfolding blocks join

@@ -1,13 +1,13 @@
 -- Lists of bytes, put together and taken apart.
 -- Assumes nothing.
-use mathlib.Core.Path.{_≡_, sym, ap, _∙_, subst}
+use mathlib.Core.Path.{_≡_, refl, sym, ap, _∙_, subst}
 use mathlib.Core.List.{List, [], _∷_, _++_}
 use Prim.Native.Nat.{ℕ, zero, suc, _+_, _-_, _≤_, _<_}
 use native.Mathlib.Omega.{arith}
 use lib.Dec.{lit<}
 use lib.ListN.{getD, take, drop, replicate, length-replicate, replicate-append-replicate}
 use lib.Seq.{getD-drop, drop-at}
-use Rattle.block.specs.Bytes.{Bytes}
+use Rattle.block.specs.Bytes.{Bytes, Block}
 
 pub bytes-cons : {x : ℕ} {l : List ℕ} → x < 256 → Bytes l → Bytes (x ∷ l)
 bytes-cons {x} {l} h b = record { below = go }
@@ -22,6 +22,9 @@ bytes-tail b = record { below = λ i. b .below (suc i) }
 pub bytes-zeros : (n : ℕ) → Bytes (replicate n 0)
 bytes-zeros zero = record { below = λ i. lit< tt }
 bytes-zeros (suc n) = bytes-cons (lit< tt) (bytes-zeros n)
+
+pub block-zeros : Block (replicate 16 0)
+block-zeros = record { size = refl; bytes = bytes-zeros 16 }
 
 pub bytes-append : (a b : List ℕ) → Bytes a → Bytes b → Bytes (a ++ b)
 bytes-append [] b h k = k

@@ -4,13 +4,13 @@ use mathlib.Core.Path.{_≡_, refl, sym, ap, _∙_}
 use mathlib.Core.Bool.{Bool, true, false, cond}
 use mathlib.Core.List.{List}
 use Prim.Native.Nat.{ℕ, zero, suc, _+_, _-_, _%_, _≤_, _<_, zero-le}
-use native.Mathlib.Nat.{le-refl, mod-lt}
+use native.Mathlib.Nat.{le-refl, mod-lt, zero-add, suc-add}
 use native.Mathlib.Omega.{arith}
 use lib.Dec.{ltb, lit<}
 use lib.ListN.{length, getD, length-append, length-replicate}
 use Rattle.block.specs.Tab.{byte}
 use Rattle.block.specs.Bytes.{Bytes, Block}
-use Rattle.block.specs.Double.{carried, twice, double, pad}
+use Rattle.block.specs.Double.{carried, twice, double, doubles, pad}
 use Rattle.block.proofs.TabLaws.{getD-tab, bytes-tab}
 use Rattle.block.proofs.BytesLaws.{bytes-cons, bytes-zeros, bytes-append}
 use Rattle.block.proofs.XorLaws.{xor-byte}
@@ -48,6 +48,32 @@ block-double x = record { size = refl; bytes = record { below = go } }
     go zero =
         xor-byte ((byte x 0 + byte x 0) % 256) (carried (byte x 15) 0x87) (mod-lt (byte x 0 + byte x 0) (lit< tt)) (omega (arith, carried-le (byte x 15) 0x87))
     go (suc i) = bytes-tab 15 (λ j. twice x (suc j)) (λ j h. twice-byte (byte x (suc j)) (byte x j)) .below i
+
+-- ---- doubled several times
+
+-- the last doubling apart, where the definition has the first
+pub doubles-suc : (n : ℕ) (x : List ℕ) → doubles (suc n) x ≡ double (doubles n x)
+unfolding doubles
+doubles-suc zero x = refl
+doubles-suc (suc n) x = doubles-suc n (double x)
+
+pub doubles-add : (m n : ℕ) (x : List ℕ) → doubles (m + n) x ≡ doubles m (doubles n x)
+unfolding doubles
+doubles-add zero n x = ap (λ (k : ℕ). doubles k x) (zero-add n)
+doubles-add (suc m) n x =
+    ap (λ (k : ℕ). doubles k x) (suc-add m n) ∙ doubles-suc (m + n) x ∙ ap double (doubles-add m n x) ∙ sym (doubles-suc m (doubles n x))
+
+pub length-doubles : (n : ℕ) (x : List ℕ) → length x ≡ 16 → length (doubles n x) ≡ 16
+unfolding doubles
+length-doubles zero x h = h
+length-doubles (suc n) x h = length-doubles n (double x) (length-double x)
+
+pub block-doubles : (n : ℕ) {x : List ℕ} → Block x → Block (doubles n x)
+unfolding doubles
+block-doubles zero h = h
+block-doubles (suc n) {x} h = block-doubles n (block-double x)
+
+-- ---- padding
 
 pub length-pad : (b : List ℕ) → length b < 16 → length (pad b) ≡ 16
 unfolding pad

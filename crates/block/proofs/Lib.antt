@@ -5,8 +5,10 @@ pub mod BytesLaws
 pub mod Table
 pub mod XorLaws
 pub mod BlockLaws
+pub mod AllBlocks
 pub mod ArrayBytes
 pub mod DoubleLaws
+pub mod DoubleSum
 pub mod PadLaws
 pub mod RowLaws
 pub mod PartLaws

@@ -33,3 +33,7 @@ each f n t k h = subst (λ (m : ℕ). T (f m)) (zero-add k) (from f 0 n t k h)
 -- two functions that agree below n, by the test that they do
 pub agree : (f g : ℕ → ℕ) (n : ℕ) → T (every (λ x. eqb (f x) (g x)) 0 n) → (x : ℕ) → x < n → f x ≡ g x
 agree f g n t x h = eqb→eq (f x) (g x) (each (λ x. eqb (f x) (g x)) n t x h)
+
+-- and two functions of two numbers
+pub agree₂ : (f g : ℕ → ℕ → ℕ) (m n : ℕ) → T (every (λ x. every (λ y. eqb (f x y) (g x y)) 0 n) 0 m) → (x y : ℕ) → x < m → y < n → f x y ≡ g x y
+agree₂ f g m n t x y h k = agree (f x) (g x) n (each (λ x. every (λ y. eqb (f x y) (g x y)) 0 n) m t x h) y k

@@ -3,7 +3,7 @@
 use mathlib.Core.Path.{_≡_, refl, sym, ap, ap₂, _∙_}
 use mathlib.Core.List.{List, [], _∷_}
 use Prim.Native.Nat.{ℕ, zero, suc, _+_, _*_, _/_, _%_, _≤_, _<_}
-use native.Mathlib.Nat.{mod-lt, suc-inj, le-of-suc-le-suc, not-suc-le-zero}
+use native.Mathlib.Nat.{mod-lt, suc-inj, le-of-suc-le-suc, not-suc-le-zero, zero-mul}
 use native.Mathlib.Omega.{arith}
 use lib.Arith.{bin-ind}
 use lib.Bits.{bitXor, differ, xor-step, xor-shr, xor-mod, xor-comm, xor-self, xor-zero-r, xor-lt}
@@ -59,6 +59,16 @@ xor-exchange a b c d =
     xor-assoc a b (bitXor c d)
     ∙ ap (λ (x : ℕ). bitXor a x) (sym (xor-assoc b c d) ∙ ap (λ (x : ℕ). bitXor x d) (xor-comm b c) ∙ xor-assoc c b d)
     ∙ sym (xor-assoc a c (bitXor b d))
+
+-- of two bits, each times x
+pub bits-times : (p q x : ℕ) → p < 2 → q < 2 → bitXor p q * x ≡ bitXor (p * x) (q * x)
+bits-times zero zero x h k = zero-mul x ∙ sym (xor-self (0 * x))
+bits-times zero (suc zero) x h k = sym (ap (λ (n : ℕ). bitXor n (1 * x)) (zero-mul x))
+bits-times (suc zero) zero x h k = sym (ap (λ (n : ℕ). bitXor (1 * x) n) (zero-mul x) ∙ xor-zero-r (1 * x))
+bits-times (suc zero) (suc zero) x h k = zero-mul x ∙ sym (xor-self (1 * x))
+bits-times zero (suc (suc q)) x h k = let z : ⊥ = omega arith in absurd z
+bits-times (suc zero) (suc (suc q)) x h k = let z : ⊥ = omega arith in absurd z
+bits-times (suc (suc p)) q x h k = let z : ⊥ = omega arith in absurd z
 
 pub xor-byte : (a b : ℕ) → a < 256 → b < 256 → bitXor a b < 256
 xor-byte a b h k = xor-lt 8 a b h k
@@ -125,6 +135,16 @@ bytes-⊕ a b h k = record { below = go a b (h .below) (k .below) }
 
 pub block-⊕ : {a b : List ℕ} → Block a → Block b → Block (a ⊕ b)
 block-⊕ {a} {b} h k = record { size = length-⊕ a b ∙ h .size; bytes = bytes-⊕ a b (h .bytes) (k .bytes) }
+
+-- two sums of two, summed the other way
+pub ⊕-exchange : {a b c d : List ℕ} → Block a → Block b → Block c → Block d → (a ⊕ b) ⊕ (c ⊕ d) ≡ (a ⊕ c) ⊕ (b ⊕ d)
+⊕-exchange {a} {b} {c} {d} ha hb hc hd =
+    let ab : length a ≡ length b = ha .size ∙ sym (hb .size) in
+    let ac : length a ≡ length c = ha .size ∙ sym (hc .size) in
+    let bc : length b ≡ length c = hb .size ∙ sym (hc .size) in
+    ⊕-assoc a b (c ⊕ d) (omega arith)
+    ∙ ap (λ (x : List ℕ). a ⊕ x) (sym (⊕-assoc b c d (omega arith)) ∙ ap (λ (x : List ℕ). x ⊕ d) (⊕-comm b c bc) ∙ ⊕-assoc c b d (omega arith))
+    ∙ sym (⊕-assoc a c (b ⊕ d) (omega arith))
 
 -- place by place
 pub ⊕-tab : (n : ℕ) (a b : List ℕ) → length a ≡ n → length b ≡ n → a ⊕ b ≡ tab n (λ i. bitXor (byte a i) (byte b i))

@@ -21,6 +21,11 @@ twice X (suc i) = (byte X (suc i) + byte X (suc i)) % 256 + carried (byte X i) 1
 unfoldable pub double : List ℕ → List ℕ
 double X = bitXor (twice X 0) (carried (byte X 15) 0x87) ∷ tab 15 (λ i. twice X (suc i))
 
+-- X doubled n times
+unfoldable pub doubles : ℕ → List ℕ → List ℕ
+doubles zero X = X
+doubles (suc n) X = doubles n (double X)
+
 -- a short block gets one byte 80 hex, then zeros, up to 16
 unfoldable pub pad : List ℕ → List ℕ
 pad b = b ++ (0x80 ∷ replicate (15 - length b) 0)

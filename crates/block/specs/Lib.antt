@@ -6,3 +6,4 @@ pub mod Blocks
 pub mod Double
 pub mod Rows
 pub mod LittleEndian
+pub mod Permutation

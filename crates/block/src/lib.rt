@@ -1,6 +1,6 @@
 // Bytes in blocks of 16, and slices of bytes.
 //
-// A block goes by value, as [u8; 16]. Contracts of the layers above cite `specs/`: `_⊕_` (Xor), `double` and `pad` (Double), `blockAt`,
+// A block goes by value, as [u8; 16]. Contracts of the layers above cite `specs/`: `_⊕_` (Xor), `double`, `doubles` and `pad` (Double), `blockAt`,
 // `withBlock` and `onBlocks` (Blocks), `tab` for a list given by its places (Tab), rows of any width (Rows), little-endian numbers
 // (LittleEndian), `Bytes` and `Block` (Bytes). `proofs/Lib.antt` lists the laws about them.
 ghost use mathlib.Core.Path.{_≡_};

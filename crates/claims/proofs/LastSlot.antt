@@ -22,7 +22,8 @@ use Rattle.plans.proofs.PlanLaws.{opened-no, remove-says, add-says, revise-says
 use Rattle.store.specs.declared.Outcome.{Outcome}
 use Rattle.store.specs.declared.Outcome.the-variants.{Done, Free, Damaged, Already, Converted}
 use Rattle.store.specs.Calls.{addStore, reviseStore, removeStore, recordOutcome, outcomeAt, movedFrom, convertedAt, stepAnswer, placeAfter, stepStore}
-use Rattle.claims.specs.Machine.{Event, reading, adding, revising, removing, stepping, AllAllowed, State, storeStep, moved, next, final}
+use Rattle.store.specs.Conversions.{refuses, gives}
+use Rattle.claims.specs.Machine.{Event, reading, adding, converting, revising, removing, stepping, AllAllowed, State, storeStep, moved, next, final}
 use Rattle.claims.specs.Claims.{NoneLeft, stepsOf, LastSlotClaim}
 use Rattle.claims.proofs.Simulation.{SoundStore}
 use Rattle.claims.proofs.Effects.{rekeyed, convert-says}
@@ -208,6 +209,10 @@ module _ (o w : List ℕ) (keys : badKeys o w ≡ false) (bo : Bytes o) (bw : By
   reached (adding i t ∷ es) st a g n r =
       reached es (next o w (adding i t) st) (a .1) (one-next o w keys bo bw (adding i t) st (a .0) g .1) n
       (kept-by-add (st .store) g n (st .place c) r i t (a .0 .1) (addPlan o w (st .store) i t) refl)
+  reached (converting i (refuses x) ∷ es) st a g n r = reached es st (a .1) g n r
+  reached (converting i (gives t) ∷ es) st a g n r =
+      reached es (next o w (adding i t) st) (a .1) (one-next o w keys bo bw (adding i t) st (a .0) g .1) n
+      (kept-by-add (st .store) g n (st .place c) r i t (a .0 .1) (addPlan o w (st .store) i t) refl)
   reached (revising i v t ∷ es) st a g n r =
       reached es (next o w (revising i v t) st) (a .1) (one-next o w keys bo bw (revising i v t) st (a .0) g .1) n
       (kept-by-revise (st .store) g n (st .place c) r i v t (a .0 .2) (revisePlan o w (st .store) i v t) refl)
@@ -231,6 +236,7 @@ steps-more : (c : ℕ) (es later : List Event) → stepsOf c es ≤ stepsOf c (e
 steps-more c [] later = omega arith
 steps-more c (reading n b ∷ es) later = steps-more c es later
 steps-more c (adding n t ∷ es) later = steps-more c es later
+steps-more c (converting n x ∷ es) later = steps-more c es later
 steps-more c (revising n v t ∷ es) later = steps-more c es later
 steps-more c (removing n ∷ es) later = steps-more c es later
 steps-more c (stepping d ∷ es) later = one-more (eqb c d) (stepsOf c es) (stepsOf c (es ++ later)) (steps-more c es later)

@@ -19,3 +19,4 @@ pub mod Operators
 pub mod RemoveAgain
 pub mod Witness
 pub mod Earlier
+pub mod AsAdds

@@ -27,7 +27,8 @@ use Rattle.store.specs.declared.Outcome.the-variants.{Done, Free, Damaged, Alre
 use Rattle.store.specs.declared.Stored.the-variants.{Refused, Revision}
 use Rattle.store.specs.declared.Removed.the-variants as removed
 use Rattle.store.specs.Calls.{addStore, reviseAnswer, reviseStore, removeAnswer, removeStore, outcomeAt, convertedAt, stepStore}
-use Rattle.claims.specs.Machine.{Event, reading, adding, revising, removing, stepping, Allowed, AllAllowed}
+use Rattle.store.specs.Conversions.{refuses, gives}
+use Rattle.claims.specs.Machine.{Event, reading, adding, converting, revising, removing, stepping, Allowed, AllAllowed}
 use Rattle.claims.specs.Machine.{Answer, ofRead, ofStored, ofRemoved, ofStep, State, answer, next, answers}
 use Rattle.claims.specs.Claims.{eventAt, answerAt, RemovedAt}
 use Rattle.claims.proofs.Simulation.{SoundStore}
@@ -111,6 +112,8 @@ module _ (o w : List ℕ) (keys : badKeys o w ≡ false) (bo : Bytes o) (bw : By
       → Above n v (st .store) → Above n v (next o w e st .store)
   above-next (reading i b) st h g u a = a
   above-next (adding i t) st h g u a = above-add (st .store) g a i t (h .0) (h .1) (addPlan o w (st .store) i t) refl
+  above-next (converting i (refuses x)) st h g u a = a
+  above-next (converting i (gives t)) st h g u a = above-add (st .store) g a i t (h .0) (h .1) (addPlan o w (st .store) i t) refl
   above-next (revising i m t) st h g u a = above-revise (st .store) g a i m t (h .0) (h .2) (revisePlan o w (st .store) i m t) refl
   above-next (removing i) st h g u a =
       above-remove (st .store) g a i (removePlan (st .store) i) refl (λ q d. u (ap removing q) (ap ofRemoved d))
@@ -128,6 +131,7 @@ stored-kind ofStep = 0
 abbrev revising-kind : Event → ℕ
 revising-kind (reading n b) = 0
 revising-kind (adding n t) = 0
+revising-kind (converting n x) = 0
 revising-kind (revising n v t) = 1
 revising-kind (removing n) = 0
 revising-kind (stepping c) = 0

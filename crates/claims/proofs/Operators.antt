@@ -22,10 +22,11 @@ use Rattle.store.specs.declared.Removed.the-variants as removed
 use Rattle.claims.specs.Plain.{Place, nothing, holding, numberOf, revisionOf, textIn, at, findIn, readIn, addIn, reviseIn, removeIn}
 use Rattle.claims.specs.Plain.{readText, readInto, added, afterAdd, revised, afterRevise, gone, afterRemove}
 use Rattle.claims.specs.View.{plain}
-use Rattle.claims.specs.Machine.{Event, reading, adding, revising, removing, stepping, AllAllowed, Answer, ofRead, ofStored, ofRemoved}
+use Rattle.store.specs.Conversions.{refuses, gives}
+use Rattle.claims.specs.Machine.{Event, reading, adding, converting, revising, removing, stepping, AllAllowed, Answer, ofRead, ofStored, ofRemoved}
 use Rattle.claims.specs.Machine.{State, answers, final, listAnswer, listNext, listAnswers, listFinal}
 use Rattle.claims.specs.Claims.{Key, Passes, eventAt, answerAt}
-use Rattle.claims.specs.Operators.{asked, told, Written, by-add, by-revision, Changed, revised-anew, taken-out, Unchanged}
+use Rattle.claims.specs.Operators.{asked, told, Written, by-add, by-conversion, by-revision, Changed, revised-anew, taken-out, Unchanged}
 use Rattle.claims.proofs.PlainLaws.{adds-at, revises-at, removes-at, in-has, in-lowest, at-set, at-other, found-as-before, found-there}
 use Rattle.claims.proofs.Demand3.{answers-as-a-list, holds-the-list}
 
@@ -35,6 +36,8 @@ told-asked : (es : List Event) (l : List Place) → told (listAnswers es l) ≡ 
 told-asked [] l = refl
 told-asked (reading n b ∷ es) l = ap (λ (a : List Answer). listAnswer (reading n b) l ∷ a) (told-asked es l)
 told-asked (adding n t ∷ es) l = ap (λ (a : List Answer). listAnswer (adding n t) l ∷ a) (told-asked es (listNext (adding n t) l))
+told-asked (converting n (refuses x) ∷ es) l = ap (λ (a : List Answer). listAnswer (converting n (refuses x)) l ∷ a) (told-asked es l)
+told-asked (converting n (gives t) ∷ es) l = ap (λ (a : List Answer). listAnswer (adding n t) l ∷ a) (told-asked es (listNext (adding n t) l))
 told-asked (revising n v t ∷ es) l = ap (λ (a : List Answer). listAnswer (revising n v t) l ∷ a) (told-asked es (listNext (revising n v t) l))
 told-asked (removing n ∷ es) l = ap (λ (a : List Answer). listAnswer (removing n) l ∷ a) (told-asked es (listNext (removing n) l))
 told-asked (stepping c ∷ es) l = told-asked es l
@@ -43,6 +46,8 @@ final-asked : (es : List Event) (l : List Place) → listFinal es l ≡ listFina
 final-asked [] l = refl
 final-asked (reading n b ∷ es) l = final-asked es l
 final-asked (adding n t ∷ es) l = final-asked es (listNext (adding n t) l)
+final-asked (converting n (refuses x) ∷ es) l = final-asked es l
+final-asked (converting n (gives t) ∷ es) l = final-asked es (listNext (adding n t) l)
 final-asked (revising n v t ∷ es) l = final-asked es (listNext (revising n v t) l)
 final-asked (removing n ∷ es) l = final-asked es (listNext (removing n) l)
 final-asked (stepping c ∷ es) l = final-asked es l
@@ -119,6 +124,8 @@ module _ (n r : ℕ) (t : List ℕ) (z : n ≡ 0 → ⊥) where
   holds-next : (e : Event) (l : List Place) → (Changed n e (listAnswer e l) → ⊥) → Holds n r t l → Holds n r t (listNext e l)
   holds-next (reading m b) l d c = c
   holds-next (adding m u) l d c = holds-add l c m u (addIn l m u) refl
+  holds-next (converting m (refuses x)) l d c = c
+  holds-next (converting m (gives u)) l d c = holds-add l c m u (addIn l m u) refl
   holds-next (revising m v u) l d c =
       holds-revise l c m v u (reviseIn l m v u) refl (λ i q a. d (is-revised m v u i (revised l (reviseIn l m v u)) q a))
   holds-next (removing m) l d c = holds-remove l c m (removeIn l m) refl (λ q a. d (is-removed m (gone (removeIn l m)) q a))
@@ -181,6 +188,7 @@ module _ (n : ℕ) (t : List ℕ) (r : ℕ) where
 
   holds-written : (e : Event) (a : Answer) → Written n t r e a → (l : List Place) → listAnswer e l ≡ a → (n ≡ 0 → ⊥) × Holds n r t (listNext e l)
   holds-written e a by-add l q = holds-added l (addIn l n t) refl q
+  holds-written e a by-conversion l q = holds-added l (addIn l n t) refl q
   holds-written e a (by-revision v) l q = holds-revised l v (reviseIn l n v t) refl q
 
   list-back : (es : List Event) (l : List Place) (i j : ℕ) → i < j → Written n t r (eventAt es i) (answerAt (listAnswers es l) i)
@@ -195,8 +203,8 @@ module _ (n : ℕ) (t : List ℕ) (r : ℕ) where
   list-back (x ∷ es) l (suc i) (suc j) h a u b e f =
       list-back es (listNext x l) i j (omega arith) a (λ k hi hj. u (suc k) (omega arith) (omega arith)) b e f
 
--- a read at position j, into a buffer that is long enough, after an add or a revision of the sheet that was accepted at position i, with anything
--- between but an accepted revision or removal of the sheet: the text, its length, and the revision that was answered
+-- a read at position j, into a buffer that is long enough, after an add, a conversion or a revision of the sheet that was accepted at position i, with
+-- anything between but an accepted revision or removal of the sheet: the text, its length, and the revision that was answered
 pub read-back : (o w : List ℕ) → Key o → Key w → (st : State) → Bytes (st .store) → Passes (st .store) → (es : List Event) → AllAllowed es
     → (n : ℕ) (t : List ℕ) (r i j : ℕ) → i < j → Written n t r (eventAt es i) (answerAt (answers o w es st) i)
     → Unchanged n es (answers o w es st) i j

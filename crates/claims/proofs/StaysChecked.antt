@@ -19,7 +19,8 @@ use Rattle.plans.proofs.PlanLaws.{remove-says, add-says, revise-says}
 use Rattle.store.specs.declared.Outcome.{Outcome}
 use Rattle.store.specs.declared.Outcome.the-variants.{Done, Free, Damaged, Already, Converted}
 use Rattle.store.specs.Calls.{addStore, reviseStore, removeStore, outcomeAt, convertedAt, stepStore}
-use Rattle.claims.specs.Machine.{Event, reading, adding, revising, removing, stepping, Allowed, AllAllowed, State, next, final}
+use Rattle.store.specs.Conversions.{refuses, gives}
+use Rattle.claims.specs.Machine.{Event, reading, adding, converting, revising, removing, stepping, Allowed, AllAllowed, State, next, final}
 use Rattle.claims.proofs.Simulation.{SoundStore}
 use Rattle.claims.proofs.Effects.{rekeyed, convert-says}
 use Rattle.claims.proofs.Traces.{one-next}
@@ -63,6 +64,9 @@ next-apart : (o w : List ℕ) → Bytes o → Bytes w → (e : Event) (st : Stat
     → Apart (next o w e st .store)
 next-apart o w bo bw (reading n b) st h g a = a
 next-apart o w bo bw (adding n t) st h g a = added-apart o w bo bw (st .store) g a n t (h .0) (h .1) (addPlan o w (st .store) n t) refl
+next-apart o w bo bw (converting n (refuses x)) st h g a = a
+next-apart o w bo bw (converting n (gives t)) st h g a =
+    added-apart o w bo bw (st .store) g a n t (h .0) (h .1) (addPlan o w (st .store) n t) refl
 next-apart o w bo bw (revising n v t) st h g a = revised-apart o w bo bw (st .store) g a n v t (h .0) (h .2) (revisePlan o w (st .store) n v t) refl
 next-apart o w bo bw (removing n) st h g a = removed-apart o w bo bw (st .store) g a n (removePlan (st .store) n) refl
 next-apart o w bo bw (stepping c) st h g a = stepped-apart o w bo bw (st .store) g a (stepPlan o w (st .store) (st .place c))

@@ -4,7 +4,7 @@
 use mathlib.Core.Path.{_≡_, refl, sym, ap, ap₂, _∙_}
 use mathlib.Core.Bool.{false}
 use mathlib.Core.List.{List, [], _∷_, _++_}
-use Prim.Native.Nat.{ℕ, _+_}
+use Prim.Native.Nat.{ℕ, _+_, _<_}
 use lib.ListN.{length, drop, length-set}
 use Rattle.block.specs.Bytes.{Bytes}
 use Rattle.records.specs.Record.{num, rev, len}
@@ -16,11 +16,12 @@ use Rattle.plans.specs.Plans.{badKeys, readPlan, addPlan, revisePlan, removePla
 use Rattle.plans.proofs.PlanLaws.{used, read-says, revise-says}
 use Rattle.store.specs.declared.Text.the-variants.{Read}
 use Rattle.store.specs.declared.Stored.the-variants.{Revision}
-use Rattle.store.specs.Calls.{readAnswer, readBuffer, addAnswer, reviseAnswer, removeAnswer}
+use Rattle.store.specs.Calls.{readAnswer, readBuffer, addAnswer, addStore, reviseAnswer, removeAnswer}
 use Rattle.claims.specs.Plain.{Place, nothing, holding, revisionOf, textIn, at, addIn, reviseIn, removeIn}
 use Rattle.claims.specs.Plain.{readText, readInto, added, afterAdd, revised, afterRevise, gone, afterRemove}
 use Rattle.claims.specs.View.{plain}
-use Rattle.claims.specs.Machine.{Event, reading, adding, revising, removing, stepping, Allowed, AllAllowed}
+use Rattle.store.specs.Conversions.{refuses, gives}
+use Rattle.claims.specs.Machine.{Event, reading, adding, converting, revising, removing, stepping, Allowed, AllAllowed}
 use Rattle.claims.specs.Machine.{Answer, ofRead, ofStored, ofRemoved, State, answer, next, answers, final}
 use Rattle.claims.specs.Machine.{listAnswer, listNext, listAnswers, listFinal}
 use Rattle.claims.proofs.ViewLaws.{length-plain}
@@ -45,6 +46,8 @@ length-listFinal : (es : List Event) (l : List Place) → length (listFinal es l
 length-listFinal [] l = refl
 length-listFinal (reading n b ∷ es) l = length-listFinal es l
 length-listFinal (adding n t ∷ es) l = length-listFinal es (listNext (adding n t) l) ∙ length-add l n t (addIn l n t)
+length-listFinal (converting n (refuses x) ∷ es) l = length-listFinal es l
+length-listFinal (converting n (gives t) ∷ es) l = length-listFinal es (listNext (adding n t) l) ∙ length-add l n t (addIn l n t)
 length-listFinal (revising n v t ∷ es) l = length-listFinal es (listNext (revising n v t) l) ∙ length-revise l n t (reviseIn l n v t)
 length-listFinal (removing n ∷ es) l = length-listFinal es (listNext (removing n) l) ∙ length-remove l (removeIn l n)
 length-listFinal (stepping c ∷ es) l = length-listFinal es l
@@ -78,6 +81,17 @@ module _ (o w : List ℕ) (keys : badKeys o w ≡ false) (bo : Bytes o) (bw : By
         let a = revise-says o w s n v t k e in
         ap (λ (j : ℕ). Revision (j + 1)) (sym (ap revisionOf (held o w s keys bo bw g k (a .at .within) (used (a .at)))))
 
+  -- an add, by itself or as a conversion
+  answered-add : (n : ℕ) (t s : List ℕ) → SoundStore s → ofStored (addAnswer (addPlan o w s n t)) ≡ ofStored (added (addIn (plain o w s) n t))
+  answered-add n t s g = ap ofStored (add-same s g (addPlan o w s n t) ∙ ap added (add-plain o w s keys bo bw g n t))
+
+  left-by-add : (n : ℕ) (t s : List ℕ) → n < 4294967296 → Bytes t → SoundStore s
+      → (plain o w (addStore w s n t (addPlan o w s n t)) ≡ afterAdd (plain o w s) n t (addIn (plain o w s) n t))
+      × SoundStore (addStore w s n t (addPlan o w s n t))
+  left-by-add n t s hn bt g =
+      let c = effect-add o w s keys bo bw g n t hn bt (addPlan o w s n t) refl in
+      (c .0 ∙ ap (afterAdd (plain o w s) n t) (add-plain o w s keys bo bw g n t), c .1)
+
   -- one event
   one-answer : (e : Event) (st : State) → SoundStore (st .store) → answer o w e st ≡ listAnswer e (plain o w (st .store))
   one-answer (reading n b) st g =
@@ -85,9 +99,9 @@ module _ (o w : List ℕ) (keys : badKeys o w ≡ false) (bo : Bytes o) (bw : By
       let c = read-same s g n b (readPlan o w s n (length b)) refl in
       ap₂ ofRead (c .0) (c .1)
       ∙ ap (λ (p : Plan). ofRead (readText (plain o w s) p) (readInto (plain o w s) b p)) (read-plain o w s keys bo bw g n (length b))
-  one-answer (adding n t) st g =
-      let s : List ℕ = st .store in
-      ap ofStored (add-same s g (addPlan o w s n t) ∙ ap added (add-plain o w s keys bo bw g n t))
+  one-answer (adding n t) st g = answered-add n t (st .store) g
+  one-answer (converting n (refuses x)) st g = refl
+  one-answer (converting n (gives t)) st g = answered-add n t (st .store) g
   one-answer (revising n v t) st g =
       let s : List ℕ = st .store in
       ap ofStored (revise-same s g n v t (revisePlan o w s n v t) refl ∙ ap (revised (plain o w s)) (revise-plain o w s keys bo bw g n v t))
@@ -99,10 +113,9 @@ module _ (o w : List ℕ) (keys : badKeys o w ≡ false) (bo : Bytes o) (bw : By
   pub one-next : (e : Event) (st : State) → Allowed e → SoundStore (st .store)
       → (plain o w (next o w e st .store) ≡ listNext e (plain o w (st .store))) × SoundStore (next o w e st .store)
   one-next (reading n b) st a g = (refl, g)
-  one-next (adding n t) st a g =
-      let s : List ℕ = st .store in
-      let c = effect-add o w s keys bo bw g n t (a .0) (a .1) (addPlan o w s n t) refl in
-      (c .0 ∙ ap (afterAdd (plain o w s) n t) (add-plain o w s keys bo bw g n t), c .1)
+  one-next (adding n t) st a g = left-by-add n t (st .store) (a .0) (a .1) g
+  one-next (converting n (refuses x)) st a g = (refl, g)
+  one-next (converting n (gives t)) st a g = left-by-add n t (st .store) (a .0) (a .1) g
   one-next (revising n v t) st a g =
       let s : List ℕ = st .store in
       let c = effect-revise o w s keys bo bw g n v t (a .0) (a .2) (revisePlan o w s n v t) refl in

@@ -1,6 +1,6 @@
 -- Demand 3 is not empty: what its theorems ask for is there. A key of each size, a store that passes the check and one that does not, an event of each
--- kind at its greatest numbers, and one list of events on which each theorem is used: a removal, an add, a read and a revision are accepted in it,
--- as the plain list of the store in clear computes.
+-- kind at its greatest numbers, and one list of events on which each theorem is used: a removal, an add, a read, a revision and a conversion are
+-- accepted in it, as the plain list of the store in clear computes.
 -- Assumes nothing.
 use mathlib.Core.Path.{_≡_, refl, sym, ap, ap₂, _∙_, subst}
 use mathlib.Core.Bool.{Bool, cond}
@@ -12,7 +12,7 @@ use lib.Dec.{lit<}
 use lib.ListN.{replicate}
 use Rattle.block.specs.Bytes.{Bytes}
 use Rattle.block.proofs.BytesLaws.{bytes-zeros, bytes-cons}
-use Rattle.numbers.specs.declared.Refusal.the-variants.{OtherRevision}
+use Rattle.numbers.specs.declared.Refusal.the-variants.{KeyLength, OtherRevision}
 use Rattle.records.specs.Record.{textMost, num, rev}
 use Rattle.records.proofs.RecordLaws.{rev-record, stored-record}
 use Rattle.slots.specs.Slots.{slots, slot, scan, badSize}
@@ -23,9 +23,11 @@ use Rattle.plans.specs.Plans.{guard, badLength}
 use Rattle.store.specs.declared.Text.the-variants.{Read}
 use Rattle.store.specs.declared.Stored.the-variants.{Revision, Refused}
 use Rattle.store.specs.declared.Removed.the-variants.{Done}
+use Rattle.store.specs.Conversions.{refuses, gives}
 use Rattle.claims.specs.Plain.{Place, nothing, holding, findIn, readIn, addIn, reviseIn, removeIn}
 use Rattle.claims.specs.View.{placeOf, placesFrom, plain}
-use Rattle.claims.specs.Machine.{Event, reading, adding, revising, removing, stepping, Allowed, AllAllowed, Answer, ofRead, ofStored, ofRemoved, ofStep}
+use Rattle.claims.specs.Machine.{Event, reading, adding, converting, revising, removing, stepping, Allowed, AllAllowed}
+use Rattle.claims.specs.Machine.{Answer, ofRead, ofStored, ofRemoved, ofStep}
 use Rattle.claims.specs.Machine.{State, answers, final, listAnswers, listFinal}
 use Rattle.claims.specs.Claims.{Key, Passes, NoneLeft, eventAt, answerAt}
 use Rattle.claims.specs.Operators.{asked, told, Written, by-add, Changed, revised-anew, taken-out, Unchanged}
@@ -73,6 +75,12 @@ read-allowed = search (bytes-full textMost, arith)
 pub add-allowed : Allowed (adding greatest text)
 add-allowed = search (bytes-full textMost, arith)
 
+pub conversion-allowed : Allowed (converting greatest (gives text))
+conversion-allowed = search (bytes-full textMost, arith)
+
+pub refused-allowed : Allowed (converting greatest (refuses KeyLength))
+refused-allowed = search arith
+
 pub revision-allowed : Allowed (revising greatest greatest text)
 revision-allowed = search (bytes-full textMost, arith)
 
@@ -88,7 +96,8 @@ step-allowed = search arith
 abbrev start : State
 start = record { store = twoClear; place = λ c. 0 }
 
--- a slot is freed, and a sheet added there, read, revised, revised again as by a retry, and removed, while a copy of the job makes two steps
+-- a slot is freed, and a sheet added there, read, revised, revised again as by a retry, and removed, while a copy of the job makes two steps; then
+-- a conversion is refused by a number of its own, and one comes to a text
 abbrev events : List Event
 events =
     removing 1
@@ -100,16 +109,19 @@ events =
     ∷ revising greatest greatest text
     ∷ stepping greatest
     ∷ removing greatest
+    ∷ converting greatest (refuses KeyLength)
+    ∷ converting greatest (gives text)
     ∷ []
 
 once-revised : Allowed (revising greatest 1 shorter)
 once-revised = (lit< tt, lit< tt, bytes-full 16)
 
-retried : AllAllowed (revising greatest 1 shorter ∷ revising greatest 1 shorter ∷ revising greatest greatest text ∷ stepping greatest ∷ removing greatest ∷ [])
-retried = (once-revised, (once-revised, (revision-allowed, (step-allowed, (removal-allowed, tt)))))
+converted : AllAllowed (removing greatest ∷ converting greatest (refuses KeyLength) ∷ converting greatest (gives text) ∷ [])
+converted = (removal-allowed, (refused-allowed, (conversion-allowed, tt)))
 
 allowed : AllAllowed events
-allowed = (lit< tt, (add-allowed, (step-allowed, (read-allowed, retried))))
+allowed =
+    (lit< tt, (add-allowed, (step-allowed, (read-allowed, (once-revised, (once-revised, (revision-allowed, (step-allowed, converted))))))))
 
 -- what the two slots in clear hold
 in-clear : (n : ℕ) → n < 4294967296 → (n ≡ 0 → ⊥) → placeOf short long (clear n) ≡ holding n 1 (replicate 16 0)
@@ -127,7 +139,7 @@ two-sheets =
     ∙ ap₂ (λ (x y : Place). x ∷ y ∷ []) (ap (placeOf short long) slot-0 ∙ in-clear 1 (lit< tt) (λ q. let y : ⊥ = omega arith in y))
     (ap (placeOf short long) slot-1 ∙ in-clear 2 (lit< tt) (λ q. let y : ⊥ = omega arith in y))
 
--- a removal, an add, a read and a revision are each accepted
+-- a removal, an add, a read, a revision and a conversion are each accepted
 pub each-accepted : answers short long events start
     ≡ ofRemoved Done
     ∷ ofStored (Revision 1)
@@ -138,11 +150,13 @@ pub each-accepted : answers short long events start
     ∷ ofStored (Refused OtherRevision)
     ∷ ofStep
     ∷ ofRemoved Done
+    ∷ ofStored (Refused KeyLength)
+    ∷ ofStored (Revision 1)
     ∷ []
 unfolding readIn addIn reviseIn removeIn findIn scan guard badLength
 each-accepted = answers-as-a-list short long key-48 key-64 start (sound-two .bytes) two-pass events allowed ∙ ap (listAnswers events) two-sheets
 
-pub list-left : plain short long (final short long events start .store) ≡ nothing ∷ holding 2 1 (replicate 16 0) ∷ []
+pub list-left : plain short long (final short long events start .store) ≡ holding greatest 1 text ∷ holding 2 1 (replicate 16 0) ∷ []
 unfolding readIn addIn reviseIn removeIn findIn scan guard badLength
 list-left = holds-the-list short long key-48 key-64 start (sound-two .bytes) two-pass events allowed ∙ ap (listFinal events) two-sheets
 
@@ -188,4 +202,4 @@ pub same-without-steps : told (answers short long events start) ≡ told (answer
 same-without-steps = steps-change-nothing short long key-48 key-64 start start refl (sound-two .bytes) two-pass events (asked events) allowed fewer refl .0
   where
     fewer : AllAllowed (asked events)
-    fewer = (lit< tt, (add-allowed, (read-allowed, (once-revised, (once-revised, (revision-allowed, (removal-allowed, tt)))))))
+    fewer = (lit< tt, (add-allowed, (read-allowed, (once-revised, (once-revised, (revision-allowed, converted))))))

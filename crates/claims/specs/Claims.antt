@@ -15,7 +15,7 @@ use Rattle.plans.specs.Plans.{removePlan}
 use Rattle.store.specs.declared.Removed.{Removed}
 use Rattle.store.specs.declared.Removed.the-variants.{Done, Refused}
 use Rattle.store.specs.Calls.{removeAnswer, removeStore}
-use Rattle.claims.specs.Machine.{Event, reading, adding, revising, removing, stepping, AllAllowed, Answer, ofRemoved, ofStep}
+use Rattle.claims.specs.Machine.{Event, reading, adding, converting, revising, removing, stepping, AllAllowed, Answer, ofRemoved, ofStep}
 use Rattle.claims.specs.Machine.{State, Step, storeStep, finalBy, answers}
 
 -- a key: 48 or 64 bytes
@@ -37,6 +37,7 @@ abbrev pub stepsOf : ℕ → List Event → ℕ
 stepsOf c [] = 0
 stepsOf c (reading n b ∷ es) = stepsOf c es
 stepsOf c (adding n t ∷ es) = stepsOf c es
+stepsOf c (converting n x ∷ es) = stepsOf c es
 stepsOf c (revising n v t ∷ es) = stepsOf c es
 stepsOf c (removing n ∷ es) = stepsOf c es
 stepsOf c (stepping d ∷ es) = cond (eqb c d) (suc (stepsOf c es)) (stepsOf c es)

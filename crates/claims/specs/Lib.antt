@@ -5,3 +5,4 @@ pub mod Machine
 pub mod Claims
 pub mod Operators
 pub mod Earlier
+pub mod AsAdds

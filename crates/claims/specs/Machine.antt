@@ -13,12 +13,16 @@ use Rattle.store.specs.declared.Stored.{Stored}
 use Rattle.store.specs.declared.Removed.{Removed}
 use Rattle.store.specs.Calls.{readAnswer, readBuffer, addAnswer, addStore, reviseAnswer, reviseStore, removeAnswer, removeStore}
 use Rattle.store.specs.Calls.{stepAnswer, placeAfter, stepStore}
-use Rattle.claims.specs.Plain.{Place, readIn, addIn, reviseIn, removeIn, readText, readInto, added, afterAdd, revised, afterRevise, gone, afterRemove}
+use Rattle.store.specs.Conversions.{Source, refuses, gives, convertAnswer, convertStore}
+use Rattle.claims.specs.Plain.{Place, readIn, addIn, reviseIn, removeIn, readText, readInto, added, afterAdd, converted, afterConverting}
+use Rattle.claims.specs.Plain.{revised, afterRevise, gone, afterRemove}
 
--- read sheet n into the buffer b; add sheet n with text t; revise sheet n, seen at revision v, with text t; remove sheet n; a step of copy c
+-- read sheet n into the buffer b; add sheet n with text t; add sheet n from a source elsewhere (02's conversions); revise sheet n, seen at revision v,
+-- with text t; remove sheet n; a step of copy c
 pub data Event : Type 0 where
   reading : ℕ → List ℕ → Event
   adding : ℕ → List ℕ → Event
+  converting : ℕ → Source → Event
   revising : ℕ → ℕ → List ℕ → Event
   removing : ℕ → Event
   stepping : ℕ → Event
@@ -27,6 +31,8 @@ pub data Event : Type 0 where
 abbrev pub Allowed : Event → Type 0
 Allowed (reading n b) = (n < 4294967296) × Bytes b
 Allowed (adding n t) = (n < 4294967296) × Bytes t
+Allowed (converting n (refuses x)) = n < 4294967296
+Allowed (converting n (gives t)) = (n < 4294967296) × Bytes t
 Allowed (revising n v t) = (n < 4294967296) × (v < 4294967296) × Bytes t
 Allowed (removing n) = n < 4294967296
 Allowed (stepping c) = Unit {0}
@@ -67,6 +73,7 @@ module _ (o w : List ℕ) where
   answer (reading n b) st =
       ofRead (readAnswer (st .store) (readPlan o w (st .store) n (length b))) (readBuffer o w (st .store) b (readPlan o w (st .store) n (length b)))
   answer (adding n t) st = ofStored (addAnswer (addPlan o w (st .store) n t))
+  answer (converting n x) st = ofStored (convertAnswer o w (st .store) n x)
   answer (revising n v t) st = ofStored (reviseAnswer (st .store) (revisePlan o w (st .store) n v t))
   answer (removing n) st = ofRemoved (removeAnswer (removePlan (st .store) n))
   answer (stepping c) st = ofStep
@@ -75,6 +82,7 @@ module _ (o w : List ℕ) where
   abbrev pub nextBy : Step → Event → State → State
   nextBy f (reading n b) st = st
   nextBy f (adding n t) st = record { store = addStore w (st .store) n t (addPlan o w (st .store) n t); place = st .place }
+  nextBy f (converting n x) st = record { store = convertStore o w (st .store) n x; place = st .place }
   nextBy f (revising n v t) st = record { store = reviseStore w (st .store) n t (revisePlan o w (st .store) n v t); place = st .place }
   nextBy f (removing n) st = record { store = removeStore (st .store) (removePlan (st .store) n); place = st .place }
   nextBy f (stepping c) st =
@@ -99,6 +107,7 @@ module _ (o w : List ℕ) where
 abbrev pub listAnswer : Event → List Place → Answer
 listAnswer (reading n b) l = ofRead (readText l (readIn l n (length b))) (readInto l b (readIn l n (length b)))
 listAnswer (adding n t) l = ofStored (added (addIn l n t))
+listAnswer (converting n x) l = ofStored (converted l n x)
 listAnswer (revising n v t) l = ofStored (revised l (reviseIn l n v t))
 listAnswer (removing n) l = ofRemoved (gone (removeIn l n))
 listAnswer (stepping c) l = ofStep
@@ -106,6 +115,7 @@ listAnswer (stepping c) l = ofStep
 abbrev pub listNext : Event → List Place → List Place
 listNext (reading n b) l = l
 listNext (adding n t) l = afterAdd l n t (addIn l n t)
+listNext (converting n x) l = afterConverting l n x
 listNext (revising n v t) l = afterRevise l n t (reviseIn l n v t)
 listNext (removing n) l = afterRemove l (removeIn l n)
 listNext (stepping c) l = l

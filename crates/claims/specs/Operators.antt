@@ -4,7 +4,8 @@ use mathlib.Core.List.{List, [], _∷_}
 use Prim.Native.Nat.{ℕ, _<_}
 use Rattle.store.specs.declared.Stored.the-variants.{Revision}
 use Rattle.store.specs.declared.Removed.the-variants.{Done}
-use Rattle.claims.specs.Machine.{Event, reading, adding, revising, removing, stepping, Answer, ofRead, ofStored, ofRemoved, ofStep}
+use Rattle.store.specs.Conversions.{gives}
+use Rattle.claims.specs.Machine.{Event, reading, adding, converting, revising, removing, stepping, Answer, ofRead, ofStored, ofRemoved, ofStep}
 use Rattle.claims.specs.Claims.{eventAt, answerAt}
 
 -- the events but for steps
@@ -12,6 +13,7 @@ abbrev pub asked : List Event → List Event
 asked [] = []
 asked (reading n b ∷ es) = reading n b ∷ asked es
 asked (adding n t ∷ es) = adding n t ∷ asked es
+asked (converting n x ∷ es) = converting n x ∷ asked es
 asked (revising n v t ∷ es) = revising n v t ∷ asked es
 asked (removing n ∷ es) = removing n ∷ asked es
 asked (stepping c ∷ es) = asked es
@@ -24,9 +26,10 @@ told (ofStored x ∷ l) = ofStored x ∷ told l
 told (ofRemoved x ∷ l) = ofRemoved x ∷ told l
 told (ofStep ∷ l) = told l
 
--- an accepted add or revision of sheet n with text t, which answered revision r
+-- an accepted add, conversion or revision of sheet n with text t, which answered revision r
 pub data Written (n : ℕ) (t : List ℕ) (r : ℕ) : Event → Answer → Type 0 where
   by-add : Written n t r (adding n t) (ofStored (Revision r))
+  by-conversion : Written n t r (converting n (gives t)) (ofStored (Revision r))
   by-revision : (v : ℕ) → Written n t r (revising n v t) (ofStored (Revision r))
 
 -- an accepted revision or removal of sheet n

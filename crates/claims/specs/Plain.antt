@@ -19,6 +19,7 @@ use Rattle.store.specs.declared.Stored.{Stored}
 use Rattle.store.specs.declared.Stored.the-variants as stored
 use Rattle.store.specs.declared.Removed.{Removed}
 use Rattle.store.specs.declared.Removed.the-variants as removed
+use Rattle.store.specs.Conversions.{Source, refuses, gives}
 
 pub data Place : Type 0 where
   nothing : Place
@@ -86,6 +87,15 @@ added (At k) = stored.Revision 1
 abbrev pub afterAdd : List Place → ℕ → List ℕ → Plan → List Place
 afterAdd l n t (Refuse x) = l
 afterAdd l n t (At k) = set l k (holding n 1 t)
+
+-- 02, conversions: refused by a number of its own the list keeps what it holds, and a text is added
+abbrev pub converted : List Place → ℕ → Source → Stored
+converted l n (refuses x) = stored.Refused x
+converted l n (gives t) = added (addIn l n t)
+
+abbrev pub afterConverting : List Place → ℕ → Source → List Place
+afterConverting l n (refuses x) = l
+afterConverting l n (gives t) = afterAdd l n t (addIn l n t)
 
 abbrev pub revised : List Place → Plan → Stored
 revised l (Refuse x) = stored.Refused x

@@ -11,10 +11,10 @@ use lib.Dec.{eqb}
 use lib.ListN.{length, drop, length-drop}
 use lib.Seq.{length-take-le}
 use Rattle.block.specs.Bytes.{Bytes, Block}
+use Rattle.block.specs.Permutation.{Undoes}
 use Rattle.block.proofs.BytesLaws.{bytes-take, bytes-drop}
 use Rattle.aes.specs.Aes.{keySize, aes}
 use Rattle.aes.specs.Promise.{aes-block, aes-undone}
-use Rattle.mode.specs.Permutation.{Undoes}
 use Rattle.mode.specs.TStar.{eme2TStar}
 use Rattle.mode.proofs.Undo.{wide-undone}
 use Rattle.mode.proofs.Lengths.{length-wide, bytes-wide}

@@ -6,16 +6,22 @@ ghost use Rattle.lagunedo.specs.Calls.{AesCalled, Eme2Called};
 mod job;
 // The store's calls.
 mod store_calls;
+// The calls of XTS-AES.
+mod xts_calls;
 
 pub use job::Job;
 pub use job::lagunedo_job_step;
 use numbers::answer_number;
 pub use store_calls::lagunedo_add;
+pub use store_calls::lagunedo_add_xts;
 pub use store_calls::lagunedo_check;
 pub use store_calls::lagunedo_read;
 pub use store_calls::lagunedo_remove;
 pub use store_calls::lagunedo_revise;
 pub use store_calls::lagunedo_step;
+pub use xts_calls::lagunedo_xts_block;
+pub use xts_calls::lagunedo_xts_decipher;
+pub use xts_calls::lagunedo_xts_encipher;
 
 // Overwrites the block with its encipherment under the key; 1, 2.
 #[no_mangle]

@@ -1,5 +1,5 @@
 // The store's calls for C. Each makes the call with what stands behind its pointers, and writes back what is to stand there.
-ghost use Rattle.answers.specs.Sheets.{CheckedForC, ReadForC, AddForC, ReviseForC, RemoveForC, StepForC};
+ghost use Rattle.answers.specs.Sheets.{CheckedForC, ReadForC, AddForC, AddXtsForC, ReviseForC, RemoveForC, StepForC};
 
 // The five counts of a sound store; 256 and the lowest faulty slot; 4.
 #[no_mangle]
@@ -60,6 +60,26 @@ pub extern "C" fn lagunedo_add(
         (now (store .exit)) (now (revision .exit)) ⌝ }
 {
     let a = answers::add(old, new, store, sheet, text, *revision);
+    *revision = a.revision;
+    a.number
+}
+
+// A new sheet from a data unit under XTS-AES; 15, 16, then add's own.
+#[no_mangle]
+pub extern "C" fn lagunedo_add_xts(
+    key: &[u8],
+    number: u64,
+    unit: &[u8],
+    old: &[u8],
+    new: &[u8],
+    store: &mut [u8],
+    sheet: u32,
+    revision: &mut u32,
+) -> u32
+    ensures { λ r. ⌜ AddXtsForC (now (key .entry)) number (now (unit .entry)) (now (old .entry)) (now (new .entry)) (now (store .entry)) sheet
+        (now (revision .entry)) r (now (store .exit)) (now (revision .exit)) ⌝ }
+{
+    let a = answers::add_xts(key, number, unit, old, new, store, sheet, *revision);
     *revision = a.revision;
     a.number
 }

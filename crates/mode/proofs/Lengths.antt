@@ -9,13 +9,13 @@ use lib.ListN.{length, length-append, length-drop}
 use Rattle.block.specs.Bytes.{Bytes, Block}
 use Rattle.block.specs.Blocks.{full, rest, blocks, join}
 use Rattle.block.specs.Double.{double}
-use Rattle.block.proofs.BytesLaws.{bytes-append, bytes-drop, bytes-zeros}
-use Rattle.block.proofs.BlockLaws.{length-rest, length-join}
-use Rattle.mode.specs.Permutation.{Undoes}
+use Rattle.block.specs.Permutation.{Undoes}
+use Rattle.block.proofs.BytesLaws.{bytes-append, bytes-drop}
+use Rattle.block.proofs.BlockLaws.{length-rest, length-join, length-blocks}
+use Rattle.block.proofs.AllBlocks.{AllBlocks, all-sized, all-blocks, bytes-joined}
 use Rattle.mode.specs.Wide.{enter, leave, middle, Cm, CCCs, CCC1, wideOn, wide}
 use Rattle.mode.proofs.ShortBlock.{length-Cm}
-use Rattle.mode.proofs.Totals.{AllBlocks}
-use Rattle.mode.proofs.Undo.{all-sized, all-blocks, length-blocks, block-enter, block-leave, block-CCC1, block-CCCs, bytes-Cm}
+use Rattle.mode.proofs.Undo.{block-enter, block-leave, block-CCC1, block-CCCs, bytes-Cm}
 
 pub length-enter : (f : List ℕ → List ℕ) (L : List ℕ) (Ps : List (List ℕ)) → length (enter f L Ps) ≡ length Ps
 unfolding enter
@@ -31,12 +31,6 @@ length-middle : (f : List ℕ → List ℕ) (M1 : List ℕ) (i : ℕ) (M : List 
 unfolding middle
 length-middle f M1 i M [] = refl
 length-middle f M1 i M (X ∷ Xs) = ap suc (length-middle f M1 (suc i) _ Xs)
-
--- blocks put together
-bytes-joined : (bs : List (List ℕ)) → AllBlocks bs → Bytes (join bs)
-unfolding join
-bytes-joined [] k = bytes-zeros 0
-bytes-joined (b ∷ bs) k = bytes-append b (join bs) (k .0 .bytes) (bytes-joined bs (k .1))
 
 module _ (f g : List ℕ → List ℕ) (u : Undoes f g) {L T : List ℕ} (hL : Block L) (hT : Block T) where
   on-blocks : (Xs : List (List ℕ)) → AllBlocks Xs → 0 < length Xs → (s : List ℕ) → length s < 16 → Bytes s

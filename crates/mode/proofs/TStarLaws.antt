@@ -1,25 +1,24 @@
 -- T_star is a block, whatever the associated data.
 -- Assumes nothing.
-use mathlib.Core.Path.{refl}
 use mathlib.Core.List.{List, [], _∷_, _++_}
 use Prim.Native.Nat.{ℕ, _*_, _<_}
 use native.Mathlib.Omega.{arith}
 use lib.ListN.{length}
 use Rattle.block.specs.Bytes.{Bytes, Block}
 use Rattle.block.specs.Blocks.{full, rest, blocks}
-use Rattle.block.specs.Double.{double}
+use Rattle.block.specs.Double.{double, doubles}
+use Rattle.block.specs.Permutation.{Undoes}
 use Rattle.block.proofs.XorLaws.{block-⊕}
-use Rattle.block.proofs.BytesLaws.{bytes-drop, bytes-zeros}
+use Rattle.block.proofs.BytesLaws.{bytes-drop, block-zeros}
 use Rattle.block.proofs.BlockLaws.{length-rest}
+use Rattle.block.proofs.AllBlocks.{AllBlocks, all-append, all-blocks}
 use Rattle.block.proofs.DoubleLaws.{block-double, block-pad}
-use Rattle.mode.specs.Permutation.{Undoes}
-use Rattle.mode.specs.TStar.{TTs, doubles, shortTT, sum, someTStar, tStar, eme2TStar}
-use Rattle.mode.proofs.Totals.{AllBlocks, all-append, block-total}
-use Rattle.mode.proofs.Undo.{all-blocks}
+use Rattle.mode.specs.TStar.{TTs, shortTT, sum, someTStar, tStar, eme2TStar}
+use Rattle.mode.proofs.Totals.{block-total}
 
 block-sum : (Ts : List (List ℕ)) → AllBlocks Ts → Block (sum Ts)
 unfolding sum
-block-sum [] k = record { size = refl; bytes = bytes-zeros 16 }
+block-sum [] k = block-zeros
 block-sum (T ∷ Ts) k = block-total Ts (k .0) (k .1)
 
 module _ (f g : List ℕ → List ℕ) (u : Undoes f g) where

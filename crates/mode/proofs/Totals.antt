@@ -1,22 +1,14 @@
 -- Sums of blocks: a sum that is added twice cancels.
 -- Assumes nothing.
 use mathlib.Core.Path.{_≡_, refl, sym, ap, _∙_}
-use mathlib.Core.List.{List, [], _∷_, _++_}
+use mathlib.Core.List.{List, [], _∷_}
 use Prim.Native.Nat.{ℕ}
 use native.Mathlib.Nat.{le-of-eq}
 use Rattle.block.specs.Xor.{_⊕_}
 use Rattle.block.specs.Bytes.{Block}
 use Rattle.block.proofs.XorLaws.{⊕-undo, ⊕-comm, ⊕-assoc, block-⊕}
+use Rattle.block.proofs.AllBlocks.{AllBlocks}
 use Rattle.mode.specs.Wide.{total}
-
--- a list of blocks
-abbrev pub AllBlocks : List (List ℕ) → Type 0
-AllBlocks [] = Unit {0}
-AllBlocks (b ∷ bs) = Block b × AllBlocks bs
-
-pub all-append : (xs ys : List (List ℕ)) → AllBlocks xs → AllBlocks ys → AllBlocks (xs ++ ys)
-all-append [] ys h k = k
-all-append (x ∷ xs) ys h k = (h .0, all-append xs ys (h .1) k)
 
 -- the last two of three change places
 swap : {a b c : List ℕ} → Block a → Block b → Block c → a ⊕ b ⊕ c ≡ a ⊕ c ⊕ b

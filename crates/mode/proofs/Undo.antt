@@ -4,23 +4,23 @@
 use mathlib.Core.Path.{_≡_, refl, sym, ap, ap₂, _∙_}
 use mathlib.Core.Bool.{Bool, true, false, cond}
 use mathlib.Core.List.{List, [], _∷_, _++_}
-use Prim.Native.Nat.{ℕ, zero, suc, _*_, _≤_, _<_}
+use Prim.Native.Nat.{ℕ, suc, _*_, _≤_, _<_}
 use native.Mathlib.Nat.{not-suc-le-zero}
 use native.Mathlib.Omega.{arith}
-use lib.ListN.{length, take, drop, length-drop}
-use lib.Seq.{length-take-le}
+use lib.ListN.{length}
 use Rattle.block.specs.Xor.{_⊕_}
 use Rattle.block.specs.Bytes.{Bytes, Block}
 use Rattle.block.specs.Blocks.{full, rest, blocks, join}
 use Rattle.block.specs.Double.{double}
-use Rattle.block.proofs.BytesLaws.{bytes-take, bytes-drop}
-use Rattle.block.proofs.BlockLaws.{Sized, blocks-of, rest-join, join-blocks, length-rest}
+use Rattle.block.specs.Permutation.{Undoes}
+use Rattle.block.proofs.BytesLaws.{bytes-drop}
+use Rattle.block.proofs.BlockLaws.{Sized, blocks-of, rest-join, join-blocks, length-rest, length-blocks}
+use Rattle.block.proofs.AllBlocks.{AllBlocks, all-append, all-sized, all-blocks}
 use Rattle.block.proofs.XorLaws.{length-⊕, ⊕-undo, ⊕-comm, bytes-⊕, block-⊕}
 use Rattle.block.proofs.DoubleLaws.{block-double, block-pad}
 use Rattle.mode.specs.Wide.{enter, leave, begins, mask, cccOf, middle, total, padded, isShort, MP, MM, MC1, M1, Cm, CCCs, CCC1, wideOn, wide}
-use Rattle.mode.specs.Permutation.{Undoes}
 use Rattle.mode.proofs.ShortBlock.{short-⊕, length-Cm}
-use Rattle.mode.proofs.Totals.{AllBlocks, all-append, block-total, total-undo}
+use Rattle.mode.proofs.Totals.{block-total, total-undo}
 
 -- around L, and back
 around : {L X : List ℕ} → Block L → Block X → L ⊕ (X ⊕ L) ≡ X
@@ -28,22 +28,6 @@ around {L} {X} hL hX = ⊕-comm L (X ⊕ L) (hL .size ∙ sym (length-⊕ X L �
 
 between : {L P : List ℕ} → Block L → Block P → L ⊕ P ⊕ L ≡ P
 between {L} {P} hL hP = ap (λ (x : List ℕ). x ⊕ L) (⊕-comm L P (hL .size ∙ sym (hP .size))) ∙ ⊕-undo P L
-
-pub all-sized : (bs : List (List ℕ)) → AllBlocks bs → Sized bs
-all-sized [] k = tt
-all-sized (b ∷ bs) k = (k .0 .size, all-sized bs (k .1))
-
-pub all-blocks : (n : ℕ) (l : List ℕ) → 16 * n ≤ length l → Bytes l → AllBlocks (blocks n l)
-unfolding blocks
-all-blocks zero l h b = tt
-all-blocks (suc n) l h b =
-    let h1 : Block (take 16 l) = record { size = length-take-le 16 l (omega arith); bytes = bytes-take 16 l b } in
-    (h1, all-blocks n (drop 16 l) (omega (arith, length-drop 16 l)) (bytes-drop 16 l b))
-
-pub length-blocks : (n : ℕ) (l : List ℕ) → length (blocks n l) ≡ n
-unfolding blocks
-length-blocks zero l = refl
-length-blocks (suc n) l = ap suc (length-blocks n (drop 16 l))
 
 block-padded : (s : List ℕ) → length s < 16 → Bytes s → AllBlocks (padded s)
 unfolding padded

@@ -10,8 +10,8 @@ use lib.ListN.{drop}
 use Rattle.block.specs.Tab.{tab, byte}
 use Rattle.block.specs.Xor.{_⊕_}
 use Rattle.block.specs.Blocks.{blocks, join}
-use Rattle.block.specs.Double.{double, pad}
-use Rattle.mode.specs.TStar.{TTs, doubles, shortTT, sum, someTStar, tStar, eme2TStar}
+use Rattle.block.specs.Double.{double, doubles, pad}
+use Rattle.mode.specs.TStar.{TTs, shortTT, sum, someTStar, tStar, eme2TStar}
 use Rattle.mode.specs.Wide.{enter, leave, total, padded, middle, MP, Cm, CCCs, CCC1, wideOn, wide}
 
 -- each byte moved down by one place and xored with its own number

@@ -2,22 +2,17 @@
 -- T_star of empty data, and what is made of the running mask for a short last block.
 -- Assumes nothing.
 use mathlib.Core.List.{List, [], _∷_, _++_}
-use Prim.Native.Nat.{ℕ, zero, suc}
+use Prim.Native.Nat.{ℕ}
 use lib.ListN.{replicate}
 use Rattle.block.specs.Xor.{_⊕_}
 use Rattle.block.specs.Blocks.{full, rest, blocks}
-use Rattle.block.specs.Double.{double, pad}
+use Rattle.block.specs.Double.{double, doubles, pad}
 use Rattle.mode.specs.Wide.{total}
 
 -- steps 4 to 6 and 10: TTi = f(mask xor Ti) xor mask, the mask doubled for each next block
 unfoldable pub TTs : (List ℕ → List ℕ) → List ℕ → List (List ℕ) → List (List ℕ)
 TTs f R [] = []
 TTs f R (Ti ∷ Ts) = (f (R ⊕ Ti) ⊕ R) ∷ TTs f (double R) Ts
-
--- the mask after n blocks
-unfoldable pub doubles : ℕ → List ℕ → List ℕ
-doubles zero R = R
-doubles (suc n) R = doubles n (double R)
 
 -- steps 7 to 10: a short last block is padded, and has a mask of its own
 unfoldable pub shortTT : (List ℕ → List ℕ) → List ℕ → List ℕ → List (List ℕ)

@@ -1,4 +1,4 @@
--- 01, numbers returned in place of a result: the number of each refusal, and that no two refusals share one.
+-- 01, numbers returned in place of a result, and those of 02: the number of each refusal, and that no two refusals share one.
 -- Assumes nothing.
 use mathlib.Core.Path.{_≡_, refl, sym, ap, _∙_}
 use mathlib.Core.List.{List, [], _∷_}
@@ -8,10 +8,11 @@ use lib.ListN.{getD}
 use Rattle.numbers.specs.declared.Refusal.{Refusal}
 use Rattle.numbers.specs.declared.Refusal.the-variants.{KeyLength, MessageLength, DataLength, StoreLength, SheetZero, TextLength, NoSheet}
 use Rattle.numbers.specs.declared.Refusal.the-variants.{OtherRevision, LastRevision, NoFreeSlot, SheetPresent, SlotUnsound, BufferLength, LengthChanged}
+use Rattle.numbers.specs.declared.Refusal.the-variants.{XtsKeyLength, UnitLength, BlockNotAlone}
 use Rattle.numbers.specs.declared.Answer.{Answer}
 use Rattle.numbers.specs.declared.Answer.the-variants.{Done, Refused}
 
--- 01's table
+-- 01's table, and from 15 on 02's
 abbrev pub paper : Refusal → ℕ
 paper KeyLength = 1
 paper MessageLength = 2
@@ -27,6 +28,9 @@ paper SheetPresent = 11
 paper SlotUnsound = 12
 paper BufferLength = 13
 paper LengthChanged = 14
+paper XtsKeyLength = 15
+paper UnitLength = 16
+paper BlockNotAlone = 17
 
 -- 0 if the call was not refused
 abbrev pub answerPaper : Answer → ℕ
@@ -50,6 +54,9 @@ refusals =
     ∷ SlotUnsound
     ∷ BufferLength
     ∷ LengthChanged
+    ∷ XtsKeyLength
+    ∷ UnitLength
+    ∷ BlockNotAlone
     ∷ []
 
 abbrev answerOf : ℕ → Answer
@@ -73,6 +80,9 @@ back (Refused SheetPresent) = refl
 back (Refused SlotUnsound) = refl
 back (Refused BufferLength) = refl
 back (Refused LengthChanged) = refl
+back (Refused XtsKeyLength) = refl
+back (Refused UnitLength) = refl
+back (Refused BlockNotAlone) = refl
 
 -- two answers with one number are equal
 pub paper-apart : (a b : Answer) → answerPaper a ≡ answerPaper b → a ≡ b
@@ -94,3 +104,6 @@ some-number SheetPresent = omega arith
 some-number SlotUnsound = omega arith
 some-number BufferLength = omega arith
 some-number LengthChanged = omega arith
+some-number XtsKeyLength = omega arith
+some-number UnitLength = omega arith
+some-number BlockNotAlone = omega arith

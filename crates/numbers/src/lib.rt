@@ -1,11 +1,11 @@
-// 01, numbers returned in place of a result: one name for each, the one that the header, the Rust wrapper and the desk use too.
+// 01, numbers returned in place of a result, and those of 02: one name for each, the one that the header, the Rust wrapper and the desk use too.
 //
-// Every call of AES, EME2 and the store refuses with a `Refusal`; a call that gives nothing else answers an `Answer`. Contracts cite
-// `specs/Numbers.antt`: the number that 01 gives to each.
+// Every call of AES, EME2, XTS and the store refuses with a `Refusal`; a call that gives nothing else answers an `Answer`. Contracts cite
+// `specs/Numbers.antt`: the number that the paper gives to each.
 ghost use mathlib.Core.Path.{_≡_};
 ghost use Rattle.numbers.specs.Numbers.{paper, answerPaper};
 
-// 01's 1 to 14, in their order. Of AES alone the message is the block.
+// 01's 1 to 14, in their order, then 02's. Of AES alone the message is the block.
 pub enum Refusal {
     KeyLength,
     MessageLength,
@@ -21,6 +21,9 @@ pub enum Refusal {
     SlotUnsound,
     BufferLength,
     LengthChanged,
+    XtsKeyLength,
+    UnitLength,
+    BlockNotAlone,
 }
 
 // What a call answers that gives nothing beside its number.
@@ -29,7 +32,7 @@ pub enum Answer {
     Refused(Refusal),
 }
 
-// 01's number of a refusal.
+// The number of a refusal, 01's or 02's.
 pub fn number(x: Refusal) -> u32
     ensures { λ r. ⌜ r ≡ paper x ⌝ }
 {
@@ -48,6 +51,9 @@ pub fn number(x: Refusal) -> u32
         Refusal::SlotUnsound => 12,
         Refusal::BufferLength => 13,
         Refusal::LengthChanged => 14,
+        Refusal::XtsKeyLength => 15,
+        Refusal::UnitLength => 16,
+        Refusal::BlockNotAlone => 17,
     }
 }
 

@@ -233,6 +233,10 @@ add-says o w s n t k e =
       free = sym (ap (λ (j : ℕ). num (slot s j)) f) ∙ find-has (slots s) (slot s) 0 h;
     }
 
+-- of a text, add's ladder looks at the length alone
+pub add-by-length : (o w s : List ℕ) (n : ℕ) (t t′ : List ℕ) → length t ≡ length t′ → addPlan o w s n t ≡ addPlan o w s n t′
+add-by-length o w s n t t′ e = ap (λ (l : ℕ). opened o w s (addFrom (slots s) (slot s) n l)) e
+
 pub record Revises (o w s : List ℕ) (n v : ℕ) (t : List ℕ) (k : ℕ) : Type 0 where
   pub keys : badKeys o w ≡ false
   pub size : badSize s ≡ false

@@ -19,7 +19,7 @@ use Rattle.claims.specs.Claims.{Key, Passes, NoneLeft, stepsOf, eventAt, answer
 use Rattle.claims.proofs.Joining.{final-join}
 use Rattle.claims.proofs.Demand3 as list
 use Rattle.answers.specs.Sheets.{stepNumber}
-use Rattle.runs.specs.Calls.{Call, reads, adds, revises, removes, steps, jobSteps, Returned, text, revision, freed, outcome}
+use Rattle.runs.specs.Calls.{Call, reads, adds, addsXts, revises, removes, steps, jobSteps, Returned, text, revision, freed, outcome}
 use Rattle.runs.specs.Calls.{callAt, returnedAt, event, events, told, asReturned, readOff, readAll}
 use Rattle.runs.specs.Runs.{Run, Six, Checks, ChecksOut}
 use Rattle.runs.proofs.OneRun.{given, givens, run-is}
@@ -43,6 +43,7 @@ told-freed (outcome m x) n e = let z : _≡_ {A = ℕ} 0 1 = cc in let v : ⊥ =
 pub is-removal : (c : Call) (n : ℕ) → event c ≡ removing n → c ≡ removes n
 is-removal (reads i b l v) n e = let z : _≡_ {A = ℕ} 0 1 = cc in let y : ⊥ = omega arith in absurd y
 is-removal (adds i t v) n e = let z : _≡_ {A = ℕ} 0 1 = cc in let y : ⊥ = omega arith in absurd y
+is-removal (addsXts k d u i v) n e = let z : _≡_ {A = ℕ} 0 1 = cc in let y : ⊥ = omega arith in absurd y
 is-removal (revises i s t v) n e = let z : _≡_ {A = ℕ} 0 1 = cc in let y : ⊥ = omega arith in absurd y
 is-removal (removes i) n e = cc
 is-removal (steps c x) n e = let z : _≡_ {A = ℕ} 0 1 = cc in let y : ⊥ = omega arith in absurd y
@@ -66,6 +67,7 @@ module _ (o w : List ℕ) (ko : Key o) (kw : Key w) where
   told-given : (c : Call) (st : State) → Bytes (st .store) → Passes (st .store) → told (given o w c st) ≡ readOff c (answer o w (event c) st)
   told-given (reads i b l v) st bs ok = refl
   told-given (adds i t v) st bs ok = refl
+  told-given (addsXts k d u i v) st bs ok = refl
   told-given (revises i s t v) st bs ok = refl
   told-given (removes i) st bs ok = refl
   told-given (steps c x) st bs ok =

@@ -4,3 +4,4 @@ pub mod Places
 pub mod TheCheck
 pub mod ForC
 pub mod Operators
+pub mod Conversions

@@ -7,10 +7,12 @@ use Prim.Native.Nat.{ℕ}
 use lib.ListN.{length}
 use Rattle.plans.specs.Plans.{readPlan, addPlan, revisePlan, removePlan, stepPlan}
 use Rattle.store.specs.Calls.{readAnswer, readBuffer, addAnswer, reviseAnswer, removeAnswer, stepAnswer}
+use Rattle.store.specs.Conversions.{convertAnswer}
+use Rattle.takeover.specs.Sources.{xtsSource}
 use Rattle.claims.specs.Machine.{Event, State, moved, next, final}
 use Rattle.answers.specs.Sheets.{readNumber, lengthOr, seenOr, storedNumber, revisionOr, removedNumber, stepNumber, outcomeOr}
-use Rattle.runs.specs.Calls.{Call, reads, adds, revises, removes, steps, jobSteps, Returned, text, revision, freed, outcome, event, events}
-use Rattle.runs.specs.Runs.{Joined, by-read, by-add, by-revise, by-remove, by-step, by-job-step, Run, no-call, a-call}
+use Rattle.runs.specs.Calls.{Call, reads, adds, addsXts, revises, removes, steps, jobSteps, Returned, text, revision, freed, outcome, event, events}
+use Rattle.runs.specs.Runs.{Joined, by-read, by-add, by-add-xts, by-revise, by-remove, by-step, by-job-step, Run, no-call, a-call}
 
 module _ (o w : List ℕ) where
   -- what a step gives back, by either call
@@ -28,6 +30,9 @@ module _ (o w : List ℕ) where
   given (adds i t v) st =
       let a = addAnswer (addPlan o w (st .store) i t) in
       revision (storedNumber a) (revisionOr v a)
+  given (addsXts k d u i v) st =
+      let a = convertAnswer o w (st .store) i (xtsSource k d u) in
+      revision (storedNumber a) (revisionOr v a)
   given (revises i s t v) st =
       let a = reviseAnswer (st .store) (revisePlan o w (st .store) i s t) in
       revision (storedNumber a) (revisionOr v a)
@@ -43,6 +48,7 @@ module _ (o w : List ℕ) where
   joined-is : (st : State) (c : Call) (r : Returned) (st′ : State) → Joined o w st c r st′ → (r ≡ given c st) × (st′ ≡ next o w (event c) st)
   joined-is st c r st′ (by-read u i b l v n b′ l′ v′ q) = (λ j. text (q .0 j) (q .1 j) (q .2 j) (q .3 j), refl)
   joined-is st c r st′ (by-add u i t v n s′ v′ q) = (λ j. revision (q .0 j) (q .2 j), λ j. record { store = q .1 j; place = u .place })
+  joined-is st c r st′ (by-add-xts u k d x i v n s′ v′ q) = (λ j. revision (q .0 j) (q .2 j), λ j. record { store = q .1 j; place = u .place })
   joined-is st c r st′ (by-revise u i seen t v n s′ v′ q) = (λ j. revision (q .0 j) (q .2 j), λ j. record { store = q .1 j; place = u .place })
   joined-is st c r st′ (by-remove u i n s′ q) = (λ j. freed (q .0 j), λ j. record { store = q .1 j; place = u .place })
   joined-is st c r st′ (by-step u d x n s′ k′ x′ q) =
@@ -63,6 +69,7 @@ module _ (o w : List ℕ) where
   a-join : (c : Call) (st : State) → Joined o w st c (given c st) (next o w (event c) st)
   a-join (reads i b l v) st = by-read st i b l v _ _ _ _ (refl, refl, refl, refl)
   a-join (adds i t v) st = by-add st i t v _ _ _ (refl, refl, refl)
+  a-join (addsXts k d u i v) st = by-add-xts st k d u i v _ _ _ (refl, refl, refl)
   a-join (revises i s t v) st = by-revise st i s t v _ _ _ (refl, refl, refl)
   a-join (removes i) st = by-remove st i _ _ (refl, refl)
   a-join (steps c x) st = by-step st c x _ _ _ _ (refl, refl, refl, refl)

@@ -11,15 +11,16 @@ use Rattle.store.specs.declared.Text.the-variants.{Read}
 use Rattle.store.specs.declared.Stored.the-variants.{Revision}
 use Rattle.claims.specs.Plain.{Place}
 use Rattle.claims.specs.View.{plain}
-use Rattle.claims.specs.Machine.{Event, adding, revising, removing, AllAllowed, Answer, ofRead, ofStored}
+use Rattle.takeover.specs.Sources.{xtsSource}
+use Rattle.claims.specs.Machine.{Event, adding, converting, revising, removing, AllAllowed, Answer, ofRead, ofStored}
 use Rattle.claims.specs.Machine.{State, answers, listAnswer, listNext, listAnswers, listFinal}
 use Rattle.claims.specs.Claims.{Key, eventAt, answerAt}
 use Rattle.claims.specs.Operators as list
 use Rattle.claims.proofs.Operators as claims
-use Rattle.runs.specs.Calls.{Call, reads, adds, revises, removes, steps, jobSteps, Returned, text, revision, freed, outcome}
+use Rattle.runs.specs.Calls.{Call, reads, adds, addsXts, revises, removes, steps, jobSteps, Returned, text, revision, freed, outcome}
 use Rattle.runs.specs.Calls.{callAt, returnedAt, event, events, told, readOff, readAll}
 use Rattle.runs.specs.Runs.{Run, ChecksOut}
-use Rattle.runs.specs.Operators.{asked, gotten, Written, by-add, by-revision, Changed, revised-anew, taken-out}
+use Rattle.runs.specs.Operators.{asked, gotten, Written, by-add, by-conversion, by-revision, Changed, revised-anew, taken-out}
 use Rattle.runs.proofs.TheCheck.{checks-pass}
 use Rattle.runs.proofs.ForC.{is-accepted, told-freed, is-removal, returned-at, event-at, returns-as-a-list, holds-the-list}
 
@@ -44,6 +45,7 @@ unfolding after
 gotten-listed [] l = refl
 gotten-listed (reads i b n v ∷ cs) l = ap (after (reads i b n v) l) (gotten-listed cs l)
 gotten-listed (adds i t v ∷ cs) l = ap (after (adds i t v) l) (gotten-listed cs (listNext (adding i t) l))
+gotten-listed (addsXts k d u i v ∷ cs) l = ap (after (addsXts k d u i v) l) (gotten-listed cs (listNext (converting i (xtsSource k d u)) l))
 gotten-listed (revises i s t v ∷ cs) l = ap (after (revises i s t v) l) (gotten-listed cs (listNext (revising i s t) l))
 gotten-listed (removes i ∷ cs) l = ap (after (removes i) l) (gotten-listed cs (listNext (removing i) l))
 gotten-listed (steps c x ∷ cs) l = gotten-listed cs l
@@ -53,6 +55,7 @@ final-asked : (cs : List Call) (l : List Place) → listFinal (events cs) l ≡ 
 final-asked [] l = refl
 final-asked (reads i b n v ∷ cs) l = final-asked cs l
 final-asked (adds i t v ∷ cs) l = final-asked cs (listNext (adding i t) l)
+final-asked (addsXts k d u i v ∷ cs) l = final-asked cs (listNext (converting i (xtsSource k d u)) l)
 final-asked (revises i s t v ∷ cs) l = final-asked cs (listNext (revising i s t) l)
 final-asked (removes i ∷ cs) l = final-asked cs (listNext (removing i) l)
 final-asked (steps c x ∷ cs) l = final-asked cs l
@@ -103,6 +106,7 @@ told-revision (outcome m y) n v e = let z : _≡_ {A = ℕ} 0 1 = cc in let u : 
 is-revision : (c : Call) (n v : ℕ) (t : List ℕ) → event c ≡ revising n v t → (x : ℕ) × (c ≡ revises n v t x)
 is-revision (reads i b l u) n v t e = let z : _≡_ {A = ℕ} 0 1 = cc in let y : ⊥ = omega arith in absurd y
 is-revision (adds i s u) n v t e = let z : _≡_ {A = ℕ} 0 1 = cc in let y : ⊥ = omega arith in absurd y
+is-revision (addsXts k d x i u) n v t e = let z : _≡_ {A = ℕ} 0 1 = cc in let y : ⊥ = omega arith in absurd y
 is-revision (revises i k s u) n v t e = (u, cc)
 is-revision (removes i) n v t e = let z : _≡_ {A = ℕ} 0 1 = cc in let y : ⊥ = omega arith in absurd y
 is-revision (steps c x) n v t e = let z : _≡_ {A = ℕ} 0 1 = cc in let y : ⊥ = omega arith in absurd y
@@ -111,6 +115,7 @@ is-revision (jobSteps c x) n v t e = let z : _≡_ {A = ℕ} 0 1 = cc in let y :
 -- from what a call gave back to the answer that it is of, and back
 written-so : (n : ℕ) (t : List ℕ) (r : ℕ) (c : Call) (x : Returned) (a : Answer) → told x ≡ readOff c a → Written n t r c x → list.Written n t r (event c) a
 written-so n t r c x a q (by-add y) = rw (is-accepted a y r q) list.by-add
+written-so n t r c x a q (by-conversion k d u y e) = rw (e, is-accepted a y r q) list.by-conversion
 written-so n t r c x a q (by-revision v y) = rw (is-accepted a y r q) (list.by-revision v)
 
 changed-so : (n : ℕ) (c : Call) (x : Returned) (e : Event) (a : Answer) → e ≡ event c → told x ≡ readOff c a → list.Changed n e a → Changed n c x
@@ -123,8 +128,8 @@ changed-so n c x e a p q list.taken-out =
     let y : x ≡ freed 0 = told-freed x 0 (q ∙ ap (λ (d : Call). readOff d a) k) in
     rw (k, y) taken-out
 
--- a read at position j, into a buffer that is long enough, after an add or a revision of the sheet that was answered with 0 at position i, with anything
--- between but a revision or a removal of the sheet that was: 0, the text, its length, and the revision that was answered
+-- a read at position j, into a buffer that is long enough, after an add, a conversion or a revision of the sheet that was answered with 0 at position i,
+-- with anything between but a revision or a removal of the sheet that was: 0, the text, its length, and the revision that was answered
 module _ (o w : List ℕ) (ko : Key o) (kw : Key w) (st : State) (bs : Bytes (st .store)) (ok : ChecksOut (st .store)) where
   pub read-back : (cs : List Call) → AllAllowed (events cs) → (rs : List Returned) (st′ : State) → Run o w st cs rs st′
       → (n : ℕ) (t : List ℕ) (r i j : ℕ) → i < j → Written n t r (callAt cs i) (returnedAt rs i)

@@ -7,16 +7,17 @@ use Prim.Native.Nat.{ℕ, suc, _+_}
 use native.Mathlib.Omega.{arith}
 use borrow.Author.Tests.{eq-eqb}
 use lib.Dec.{eqb}
-use Rattle.claims.specs.Machine.{Event, reading, adding, revising, removing, stepping, State}
+use Rattle.claims.specs.Machine.{Event, reading, adding, converting, revising, removing, stepping, State}
 use Rattle.claims.specs.Claims.{stepsOf}
 use Rattle.answers.specs.Sheets.{StepForC}
 use Rattle.runs.specs.Calls.{Call, steps, jobSteps, Returned, outcome, event, events}
-use Rattle.runs.specs.Runs.{Joined, by-read, by-add, by-revise, by-remove, by-step, by-job-step, Run, no-call, a-call}
+use Rattle.runs.specs.Runs.{Joined, by-read, by-add, by-add-xts, by-revise, by-remove, by-step, by-job-step, Run, no-call, a-call}
 
 -- the steps of copy c in a list are those of its first event and of the others
 split : (c : ℕ) (e : Event) (es : List Event) → stepsOf c (e ∷ es) ≡ stepsOf c (e ∷ []) + stepsOf c es
 split c (reading n b) es = omega arith
 split c (adding n t) es = omega arith
+split c (converting n x) es = omega arith
 split c (revising n v t) es = omega arith
 split c (removing n) es = omega arith
 split c (stepping d) es = by-copy (eqb c d)
@@ -46,6 +47,7 @@ module _ (o w : List ℕ) where
       → stepsOf c (event call ∷ []) ≡ 0 → st′ .place c ≡ st .place c
   place-kept st call r st′ (by-read u i b l v n b′ l′ v′ q) c e = refl
   place-kept st call r st′ (by-add u i t v n s′ v′ q) c e = refl
+  place-kept st call r st′ (by-add-xts u k d x i v n s′ v′ q) c e = refl
   place-kept st call r st′ (by-revise u i seen t v n s′ v′ q) c e = refl
   place-kept st call r st′ (by-remove u i n s′ q) c e = refl
   place-kept st call r st′ (by-step u d x n s′ k′ x′ q) c e = stay (eqb c d) k′ (u .place c) e

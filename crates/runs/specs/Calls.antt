@@ -3,13 +3,15 @@
 use mathlib.Core.List.{List, [], _∷_, map}
 use Prim.Native.Nat.{ℕ}
 use lib.ListN.{getD}
-use Rattle.claims.specs.Machine.{Event, reading, adding, revising, removing, stepping, Answer, ofRead, ofStored, ofRemoved, ofStep}
+use Rattle.claims.specs.Machine.{Event, reading, adding, converting, revising, removing, stepping, Answer, ofRead, ofStored, ofRemoved, ofStep}
+use Rattle.takeover.specs.Sources.{xtsSource}
 use Rattle.answers.specs.Sheets.{readNumber, lengthOr, seenOr, storedNumber, revisionOr, removedNumber}
 
 -- a call with its arguments, and after them what stands behind each pointer before it; a step lends the place of a copy of the job
 pub data Call : Type 0 where
   reads : (sheet : ℕ) (buffer : List ℕ) (length revision : ℕ) → Call
   adds : (sheet : ℕ) (text : List ℕ) (revision : ℕ) → Call
+  addsXts : (key : List ℕ) (number : ℕ) (unit : List ℕ) (sheet revision : ℕ) → Call
   revises : (sheet seen : ℕ) (text : List ℕ) (revision : ℕ) → Call
   removes : (sheet : ℕ) → Call
   steps : (copy outcome : ℕ) → Call
@@ -35,6 +37,7 @@ returnedAt rs i = getD rs i (outcome 0 0)
 abbrev pub event : Call → Event
 event (reads i b l v) = reading i b
 event (adds i t v) = adding i t
+event (addsXts k d u i v) = converting i (xtsSource k d u)
 event (revises i s t v) = revising i s t
 event (removes i) = removing i
 event (steps c x) = stepping c
@@ -61,6 +64,7 @@ asReturned l v ofStep = outcome 0 0
 abbrev pub readOff : Call → Answer → Returned
 readOff (reads i b l v) a = asReturned l v a
 readOff (adds i t v) a = asReturned 0 v a
+readOff (addsXts k d u i v) a = asReturned 0 v a
 readOff (revises i s t v) a = asReturned 0 v a
 readOff (removes i) a = asReturned 0 0 a
 readOff (steps c x) a = asReturned 0 0 a

@@ -4,8 +4,8 @@
 use mathlib.Core.List.{List, [], _∷_}
 use Prim.Native.Nat.{ℕ}
 use Rattle.claims.specs.Machine.{State, moved}
-use Rattle.answers.specs.Sheets.{CheckedForC, ReadForC, AddForC, ReviseForC, RemoveForC, StepForC}
-use Rattle.runs.specs.Calls.{Call, reads, adds, revises, removes, steps, jobSteps, Returned, text, revision, freed, outcome}
+use Rattle.answers.specs.Sheets.{CheckedForC, ReadForC, AddForC, AddXtsForC, ReviseForC, RemoveForC, StepForC}
+use Rattle.runs.specs.Calls.{Call, reads, adds, addsXts, revises, removes, steps, jobSteps, Returned, text, revision, freed, outcome}
 
 -- with another store; and after a step of copy c, with its place moved too
 abbrev pub withStore : State → List ℕ → State
@@ -22,6 +22,9 @@ pub data Joined (o w : List ℕ) : State → Call → Returned → State → Typ
   -- lagunedo_add
   by-add : (st : State) (i : ℕ) (t : List ℕ) (v n : ℕ) (s′ : List ℕ) (v′ : ℕ)
       → AddForC o w (st .store) i t v n s′ v′ → Joined o w st (adds i t v) (revision n v′) (withStore st s′)
+  -- lagunedo_add_xts
+  by-add-xts : (st : State) (k : List ℕ) (d : ℕ) (u : List ℕ) (i v n : ℕ) (s′ : List ℕ) (v′ : ℕ)
+      → AddXtsForC k d u o w (st .store) i v n s′ v′ → Joined o w st (addsXts k d u i v) (revision n v′) (withStore st s′)
   -- lagunedo_revise
   by-revise : (st : State) (i seen : ℕ) (t : List ℕ) (v n : ℕ) (s′ : List ℕ) (v′ : ℕ)
       → ReviseForC o w (st .store) i seen t v n s′ v′ → Joined o w st (revises i seen t v) (revision n v′) (withStore st s′)

@@ -8,11 +8,11 @@ use native.Mathlib.Omega.{arith}
 use lib.ListN.{length, take, drop, replicate, length-drop}
 use Rattle.block.specs.Xor.{_⊕_}
 use Rattle.block.specs.Blocks.{full, rest, blocks}
-use Rattle.block.specs.Double.{double, pad}
+use Rattle.block.specs.Double.{double, doubles, pad}
 use Rattle.block.proofs.XorLaws.{length-⊕, ⊕-comm, ⊕-zero}
 use Rattle.block.proofs.BlockLaws.{first-rest}
 use Rattle.mode.specs.Wide.{total}
-use Rattle.mode.specs.TStar.{TTs, doubles, shortTT, sum, someTStar, tStar, eme2TStar}
+use Rattle.mode.specs.TStar.{TTs, shortTT, sum, someTStar, tStar, eme2TStar}
 
 -- the sum so far and what is left of the data, under the next block's mask
 abbrev pub left : (List ℕ → List ℕ) → List ℕ → List ℕ → List ℕ → List ℕ

@@ -6,16 +6,11 @@ use Prim.Native.Nat.{ℕ}
 use lib.ListN.{length}
 use Rattle.block.specs.Xor.{_⊕_}
 use Rattle.block.specs.Double.{double}
-use Rattle.block.proofs.XorLaws.{length-⊕, ⊕-comm}
+use Rattle.block.proofs.XorLaws.{⊕-comm}
 use Rattle.block.proofs.DoubleLaws.{length-double}
 use Rattle.block.proofs.BlockLaws.{Sized}
+use Rattle.field.specs.Masks.{masked}
 use Rattle.mode.specs.Wide.{enter, leave}
-use Rattle.wide.specs.Passes.{masked}
-
-pub sized-masked : (L : List ℕ) (bs : List (List ℕ)) → Sized bs → Sized (masked L bs)
-unfolding masked
-sized-masked L [] h = tt
-sized-masked L (b ∷ bs) h = (length-⊕ b L ∙ h .0, sized-masked (double L) bs (h .1))
 
 pub enter-masked : (f : List ℕ → List ℕ) (L : List ℕ) → length L ≡ 16 → (Ps : List (List ℕ)) → Sized Ps → map f (masked L Ps) ≡ enter f L Ps
 unfolding enter masked

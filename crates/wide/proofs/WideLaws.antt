@@ -12,13 +12,15 @@ use Rattle.block.specs.Xor.{_⊕_}
 use Rattle.block.specs.Blocks.{blockAt, withBlock, full, rest, blocks, join, onBlocks}
 use Rattle.block.specs.Double.{double}
 use Rattle.block.proofs.XorLaws.{length-⊕}
-use Rattle.block.proofs.BlockLaws.{Sized, sized-blocks, first-block, first-rest, length-rest, length-join, full-join, rest-join, blocks-of, on-join}
+use Rattle.block.proofs.BlockLaws.{Sized, sized-map, sized-blocks, length-blocks, first-block, first-rest, length-rest}
+use Rattle.block.proofs.BlockLaws.{length-join, full-join, rest-join, blocks-of, on-join}
+use Rattle.field.specs.Masks.{masked}
+use Rattle.field.proofs.MaskLaws.{sized-masked}
 use Rattle.mode.specs.Wide.{enter, total, padded, mask, isShort, middle, MP, MM, MC1, M1, Cm, CCCs, CCC1, wideOn, wide}
 use Rattle.mode.proofs.ShortBlock.{length-Cm}
-use Rattle.mode.proofs.Undo.{length-blocks}
 use Rattle.mode.proofs.Lengths.{length-enter}
-use Rattle.wide.specs.Passes.{masked, totalOf, mixedOn, mixed}
-use Rattle.wide.proofs.PassLaws.{sized-masked, enter-masked, leave-masked}
+use Rattle.wide.specs.Passes.{totalOf, mixedOn, mixed}
+use Rattle.wide.proofs.PassLaws.{enter-masked, leave-masked}
 use Rattle.wide.proofs.MixLaws.{length-ccc}
 use Rattle.wide.proofs.ShortLaws.{shorted}
 
@@ -38,10 +40,6 @@ short-join Ys s M h k =
 
 module _ (f : List ℕ → List ℕ) (size : (x : List ℕ) → length (f x) ≡ 16) where
   -- ---- sizes
-
-  sized-map : (bs : List (List ℕ)) → Sized (map f bs)
-  sized-map [] = tt
-  sized-map (b ∷ bs) = (size b, sized-map bs)
 
   sized-enter : (L : List ℕ) (Ps : List (List ℕ)) → Sized (enter f L Ps)
   unfolding enter
@@ -119,7 +117,7 @@ module _ (f : List ℕ → List ℕ) (size : (x : List ℕ) → length (f x) ≡
       let c : List ℕ = Cm f T X1 Xs s in
       let lc : length c < 16 = omega (arith, length-Cm f T X1 Xs s) in
       ap (onBlocks (masked L)) (on-join (map f) Y c hY lc)
-      ∙ on-join (masked L) (map f Y) c (sized-map Y) lc
+      ∙ on-join (masked L) (map f Y) c (sized-map f size Y) lc
       ∙ ap (λ (bs : List (List ℕ)). join bs ++ c) (leave-masked f L Y)
 
   pub wide-passes : (L T P : List ℕ) → length L ≡ 16 → 16 ≤ length P

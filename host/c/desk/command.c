@@ -67,7 +67,25 @@ const struct command commands[COMMANDS] = {
       "as it was is kept as STORE.desk-before; if none was, both files "
       "are left alone. Given again after it had worked, it converts none. "
       "Given again after the next begin, its old key is a wrong one, which "
-      "no program can tell: the copy is for that." }
+      "no program can tell: the copy is for that." },
+    { "import-xts", " SHEET", 1, TAKES_KEYS | TAKES_UNIT | TAKES_LOCK,
+      LAGUNEDO_FILE_TO_CHANGE, run_import_xts,
+      "adds a sheet with the text that a unit under XTS-AES deciphers to",
+      "The unit is read from standard input, and has 16 to 2,096 bytes. The "
+      "sheet starts at revision 1, under the new key, as one that was added. "
+      "Refusals, in this order: 15, 16, 1, 4, 5, 6, 11, 10. Given again "
+      "after it had worked, it is refused with 11. Nothing shows that the "
+      "XTS key or the unit's number is the wrong one: read the sheet before "
+      "the unit is thrown away." },
+    { "xts-block", "", 0, TAKES_UNIT | TAKES_BLOCK | TAKES_RAW |
+      TAKES_NO_STORE, LAGUNEDO_FILE_TO_READ, run_xts_block,
+      "prints one block of a unit under XTS-AES: 16 bytes of its text",
+      "The unit is read from standard input, and has 16 to 65,536 bytes; K "
+      "is counted from 0. The block is deciphered without the ones before "
+      "it. If the unit ends in odd bytes, fewer than 16, these and the last "
+      "full block were enciphered together and cannot be read so. What is "
+      "printed at a terminal is escaped as read does. Refusals, in this "
+      "order: 15, 16, 17." }
 };
 
 const struct command *command_named(const char *name)

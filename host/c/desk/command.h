@@ -16,8 +16,9 @@
 /* All that a command works on, gathered before it runs. */
 struct desk {
     struct request request;
-    struct key old_key, new_key;
+    struct key old_key, new_key, xts_key;
     struct text text;
+    struct unit unit;
     struct store_file store;
 };
 
@@ -29,7 +30,10 @@ enum {
     TAKES_SEEN = 8,
     TAKES_COPIES = 16,
     TAKES_RAW = 32,
-    TAKES_LOCK = 64
+    TAKES_LOCK = 64,
+    TAKES_UNIT = 128, /* on standard input, with --xts-key and --unit */
+    TAKES_BLOCK = 256,
+    TAKES_NO_STORE = 512 /* every other command is given one */
 };
 
 struct command {
@@ -43,7 +47,7 @@ struct command {
     const char *details; /* a paragraph for the help of this command */
 };
 
-enum { COMMANDS = 9 };
+enum { COMMANDS = 11 };
 
 extern const struct command commands[COMMANDS];
 
@@ -60,6 +64,10 @@ int run_add(struct desk *desk);
 int run_read(struct desk *desk);
 int run_revise(struct desk *desk);
 int run_remove(struct desk *desk);
+int run_import_xts(struct desk *desk);
+
+/* block.c */
+int run_xts_block(struct desk *desk);
 
 /* begin.c */
 int run_begin(struct desk *desk);

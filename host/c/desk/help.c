@@ -12,13 +12,14 @@
 #include "say.h"
 #include "status.h"
 
-enum { TERM_ROOM = 64, TERMS_END = 27, STATUSES_END = 7 };
+enum { TERM_ROOM = 64, USAGE_ROOM = 256, TERMS_END = 27, STATUSES_END = 7 };
 
 const char *help_usage(const struct command *command)
 {
     static char usage[TERM_ROOM];
 
-    snprintf(usage, sizeof usage, "%s STORE%s", command->name,
+    snprintf(usage, sizeof usage, "%s%s%s", command->name,
+             (command->takes & TAKES_NO_STORE) != 0 ? "" : " STORE",
              command->operands);
     return usage;
 }
@@ -80,7 +81,7 @@ static void help_of_all(void)
 {
     size_t i;
 
-    printf("usage: %s COMMAND STORE [NUMBERS] [OPTIONS]\n", own_name());
+    printf("usage: %s COMMAND [STORE] [NUMBERS] [OPTIONS]\n", own_name());
     printf("       %s --help [COMMAND]\n\n", own_name());
     page_paragraph(0, manual_purpose);
     printf("\ncommands:\n");
@@ -99,11 +100,17 @@ static void help_of_all(void)
 static void show_usage(const struct command *command)
 {
     int takes = command->takes;
+    char usage[USAGE_ROOM];
 
-    printf("usage: %s %s%s%s%s\n\n", own_name(), help_usage(command),
-           (takes & (TAKES_KEYS | TAKES_ONE_KEY)) != 0 ? " --key FILE" : "",
-           (takes & TAKES_SEEN) != 0 ? " --seen FINGERPRINT" : "",
-           takes != 0 ? " [OPTIONS]" : "");
+    snprintf(usage, sizeof usage, "%s %s%s%s%s%s%s", own_name(),
+             help_usage(command),
+             (takes & (TAKES_KEYS | TAKES_ONE_KEY)) != 0 ? " --key FILE" : "",
+             (takes & TAKES_SEEN) != 0 ? " --seen FINGERPRINT" : "",
+             (takes & TAKES_UNIT) != 0 ? " --xts-key FILE --unit N" : "",
+             (takes & TAKES_BLOCK) != 0 ? " --block K" : "",
+             takes != 0 ? " [OPTIONS]" : "");
+    page_usage(usage);
+    putchar('\n');
 }
 
 void help_print(const struct command *command)

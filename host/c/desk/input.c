@@ -29,13 +29,23 @@ int key_read(const char *file, struct key *key)
 }
 
 /* Whoever started it by mistake sees why nothing happens. */
-int text_read(struct text *text)
+static int input_read(const char *what, uint8_t *bytes, size_t room,
+                      size_t *length)
 {
     if (isatty(STDIN_FILENO))
-        complain("reads the text until end of input: Ctrl-D on a line of its "
-                 "own");
-    if (lagunedo_file_bytes_read(STDIN_FILENO, text->bytes, TEXT_ROOM,
-                                 &text->length) != 0)
+        complain("reads the %s until end of input: Ctrl-D on a line of its "
+                 "own", what);
+    if (lagunedo_file_bytes_read(STDIN_FILENO, bytes, room, length) != 0)
         return file_trouble("standard input");
     return DESK_DONE;
+}
+
+int text_read(struct text *text)
+{
+    return input_read("text", text->bytes, TEXT_ROOM, &text->length);
+}
+
+int unit_read(struct unit *unit)
+{
+    return input_read("unit", unit->bytes, UNIT_ROOM, &unit->length);
 }

@@ -111,7 +111,8 @@ void man_print(void)
     title("name");
     printf("%s \\- the sheets of a store file, at a terminal\n", installed);
     title("synopsis");
-    printf(".B %s\n.I COMMAND STORE\n[\\fINUMBERS\\fP] [\\fIOPTIONS\\fP]\n",
+    printf(".B %s\n.I COMMAND\n[\\fISTORE\\fP] [\\fINUMBERS\\fP] "
+           "[\\fIOPTIONS\\fP]\n",
            installed);
     title("description");
     line(manual_purpose);

@@ -9,7 +9,7 @@ const char manual_purpose[] =
     "STORE.";
 
 const char manual_statuses[] =
-    "1 to 14 are refusals of the library; 2, 3, 13 and 14 do not occur here. "
+    "1 to 17 are refusals of the library; 2, 3, 13 and 14 do not occur here. "
     "After a refusal the file is as it was.";
 
 const struct part manual[PARTS] = {
@@ -42,14 +42,26 @@ const struct part manual[PARTS] = {
         "again changes nothing: its answer may have been lost, or it may "
         "come from a shell's history, weeks after.",
         NULL } },
+    { "taking over",
+      { "A plant that comes with sheets under XTS-AES (IEEE 1619-2007) has "
+        "them taken over one by one. import-xts reads a unit of its disk "
+        "from standard input, deciphers it under the XTS key, a file of "
+        "exactly 32 or 64 bytes, and for the unit's number, and adds the "
+        "text as a sheet. In the store it is under EME2-AES like any other. "
+        "The unit is not changed.",
+        "XTS-AES is there for this alone. It enciphers each block of 16 "
+        "bytes by itself, so that less is hidden, and it detects forgery no "
+        "more than EME2-AES does. xts-block prints one block, for a clerk "
+        "who wants to see what a unit is before it is taken over.",
+        NULL } },
     { "given again",
       { "A store is replaced whole: STORE.desk-new is written and flushed, "
         "and renamed to STORE. A run that is cut off leaves the old store or "
         "the new one, so the same command is simply given again. If the "
         "first had worked, the store passes check and nothing else has "
-        "changed it since, then add is refused with 11, revise with 8 and "
-        "remove with 7, new ends with 106, begin with 107, and rekey finds "
-        "its sheets converted already.",
+        "changed it since, then add and import-xts are refused with 11, "
+        "revise with 8 and remove with 7, new ends with 106, begin with 107, "
+        "and rekey finds its sheets converted already.",
         "STORE.desk-before is on disk before the store is replaced, and is "
         "written by a begin or rekey that changes the store, and by no "
         "other run.",
@@ -72,5 +84,7 @@ const char *const manual_examples[] = {
     "check plant.store",
     "begin plant.store --key old.key --seen FINGERPRINT",
     "rekey plant.store --old-key old.key --new-key new.key",
+    "import-xts a.store 7 --key a.key --xts-key b.key --unit 9 <unit",
+    "xts-block --xts-key b.key --unit 9 --block 0 <unit",
     NULL
 };

@@ -8,7 +8,7 @@
 
 #include <stddef.h>
 
-enum { PARTS = 4, PARAGRAPHS_MOST = 6 };
+enum { PARTS = 5, PARAGRAPHS_MOST = 6 };
 
 struct part {
     const char *title;

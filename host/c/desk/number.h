@@ -13,4 +13,7 @@
  */
 int number_read(const char *word, uint32_t *number);
 
+/* The same of at most 64 bits. */
+int number_read_64(const char *word, uint64_t *number);
+
 #endif

@@ -48,3 +48,10 @@ void page_row(const char *term, int column, const char *text)
     }
     fill(at, column, text);
 }
+
+void page_usage(const char *text)
+{
+    int at = printf("usage: ");
+
+    fill(at, at, text);
+}

@@ -1,5 +1,5 @@
 /*
- * What a refusal is about: a key, the text, or the store.
+ * What a refusal is about: a key, the text, the unit, or the store.
  */
 
 #include "refusal.h"
@@ -25,15 +25,38 @@ static int takes_key(const struct key *key)
 }
 
 /* An editor ends a file in a newline, which makes a key too long by one. */
-static void tell_key(const struct desk *desk, uint32_t number)
+static void tell_key(const char *file, const struct key *key, uint32_t number)
 {
-    int old = !takes_key(&desk->old_key);
-    const struct key *key = old ? &desk->old_key : &desk->new_key;
     int newline = key->length > 0 && key->length < KEY_ROOM &&
                   key->bytes[key->length - 1] == '\n';
 
-    tell(old ? desk->request.old_key : desk->request.new_key, number,
-         key->length, KEY_ROOM, newline ? ", the last a newline" : "");
+    tell(file, number, key->length, KEY_ROOM,
+         newline ? ", the last a newline" : "");
+}
+
+static void tell_old_or_new_key(const struct desk *desk, uint32_t number)
+{
+    if (takes_key(&desk->old_key))
+        tell_key(desk->request.new_key, &desk->new_key, number);
+    else
+        tell_key(desk->request.old_key, &desk->old_key, number);
+}
+
+/* The text, or the unit that would be one. */
+static void tell_input(const struct desk *desk, uint32_t number)
+{
+    if ((desk->request.command->takes & TAKES_UNIT) != 0)
+        tell("standard input", number, desk->unit.length, UNIT_ROOM, "");
+    else
+        tell("standard input", number, desk->text.length, TEXT_ROOM, "");
+}
+
+static void tell_block(const struct desk *desk, uint32_t number)
+{
+    complain("standard input: refused with %u: %s; it has %lu bytes, and "
+             "block %llu was asked for", (unsigned)number,
+             status_meaning((int)number), (unsigned long)desk->unit.length,
+             (unsigned long long)desk->request.block);
 }
 
 static void tell_store(const struct desk *desk, uint32_t number)
@@ -53,11 +76,15 @@ static void tell_store(const struct desk *desk, uint32_t number)
 int refusal(const struct desk *desk, uint32_t number)
 {
     if (number == LAGUNEDO_KEY_LENGTH)
-        tell_key(desk, number);
+        tell_old_or_new_key(desk, number);
+    else if (number == LAGUNEDO_XTS_KEY_LENGTH)
+        tell_key(desk->request.xts_key, &desk->xts_key, number);
     else if (number == LAGUNEDO_STORE_LENGTH)
         tell_store(desk, number);
-    else if (number == LAGUNEDO_TEXT_LENGTH)
-        tell("standard input", number, desk->text.length, TEXT_ROOM, "");
+    else if (number == LAGUNEDO_TEXT_LENGTH || number == LAGUNEDO_UNIT_LENGTH)
+        tell_input(desk, number);
+    else if (number == LAGUNEDO_BLOCK_NOT_ALONE)
+        tell_block(desk, number);
     else
         complain("%s: refused with %u: %s", desk->request.store,
                  (unsigned)number, status_meaning((int)number));

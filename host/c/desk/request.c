@@ -114,6 +114,10 @@ static int take_operands(struct request *request, const struct words *words)
     const struct command *command = request->command;
     size_t i;
 
+    if ((command->takes & TAKES_NO_STORE) != 0)
+        return words->operands == 1
+                   ? DESK_DONE
+                   : wrong("one word too many: ", words->operand[1]);
     if (words->operands != 2 + command->numbers) {
         complain("%s takes STORE%s; %s --help tells how", command->name,
                  command->operands, own_name());
@@ -163,6 +167,39 @@ static int take_keys(struct request *request, const struct words *words)
     return DESK_DONE;
 }
 
+/* A number of 64 bits that an option has to give. */
+static int take_number(const struct words *words, enum option_number option,
+                       const struct command *command, uint64_t *number)
+{
+    const char *word = words->given[option];
+
+    if (word == NULL) {
+        complain("--%s goes with %s; %s --help tells how",
+                 options[option].name, command->name, own_name());
+        return DESK_USAGE;
+    }
+    if (!number_read_64(word, number))
+        return wrong("not a number from 0 to 18446744073709551615: ", word);
+    return DESK_DONE;
+}
+
+/* The unit's key and number, and a block of it. */
+static int take_unit(struct request *request, const struct words *words)
+{
+    const struct command *command = request->command;
+    int status;
+
+    if ((command->takes & TAKES_UNIT) == 0)
+        return DESK_DONE;
+    request->xts_key = words->given[OPTION_XTS_KEY];
+    if (request->xts_key == NULL)
+        return wrong("--xts-key goes with ", command->name);
+    status = take_number(words, OPTION_UNIT, command, &request->unit);
+    if (status == DESK_DONE && (command->takes & TAKES_BLOCK) != 0)
+        status = take_number(words, OPTION_BLOCK, command, &request->block);
+    return status;
+}
+
 static int take_rest(struct request *request, const struct words *words)
 {
     const char *copies = words->given[OPTION_COPIES];
@@ -202,6 +239,8 @@ int request_read(struct request *request, int argc, char **argv)
         status = look_at_options(request->command, &words);
     if (status == DESK_DONE)
         status = take_keys(request, &words);
+    if (status == DESK_DONE)
+        status = take_unit(request, &words);
     if (status == DESK_DONE)
         status = take_rest(request, &words);
     return status;

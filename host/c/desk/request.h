@@ -25,6 +25,8 @@ struct request {
     const char *store;
     uint32_t number[NUMBERS];
     const char *old_key, *new_key; /* files; the same string with --key */
+    const char *xts_key;           /* a file */
+    uint64_t unit, block;          /* their numbers */
     char seen[FINGERPRINT_DIGITS + 1];
     uint32_t copies;
     int raw, wait;

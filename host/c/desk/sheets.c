@@ -35,6 +35,21 @@ int run_add(struct desk *desk)
     return keep_and_tell(store, revision);
 }
 
+int run_import_xts(struct desk *desk)
+{
+    struct store_file *store = &desk->store;
+    uint32_t revision;
+    uint32_t number = lagunedo_add_xts(
+        desk->xts_key.bytes, desk->xts_key.length, desk->request.unit,
+        desk->unit.bytes, desk->unit.length, desk->old_key.bytes,
+        desk->old_key.length, desk->new_key.bytes, desk->new_key.length,
+        store->bytes, store->length, desk->request.number[SHEET], &revision);
+
+    if (number != LAGUNEDO_DONE)
+        return refusal(desk, number);
+    return keep_and_tell(store, revision);
+}
+
 int run_revise(struct desk *desk)
 {
     struct store_file *store = &desk->store;

@@ -1,7 +1,8 @@
 /*
- * AES and EME2-AES. The key, the message and the associated data are secret;
- * their lengths are not. What a call answers is not either, and a message
- * that was worked on is secret to the last bit.
+ * AES, EME2-AES and XTS-AES. The key, the message (of XTS the unit) and the
+ * associated data are secret; their lengths are not, nor are a unit's number
+ * and which of its blocks is asked for. What a call answers is not either,
+ * and a message that was worked on is secret to the last bit.
  */
 
 #include <stdio.h>
@@ -42,6 +43,25 @@ static uint32_t eme2_decipher(struct lengths n)
                                   n.message);
 }
 
+enum { UNIT = 65537, BLOCK = 13 };
+
+static uint32_t xts_encipher(struct lengths n)
+{
+    return lagunedo_xts_encipher(now.key, n.key, UNIT, now.message, n.message);
+}
+
+static uint32_t xts_decipher(struct lengths n)
+{
+    return lagunedo_xts_decipher(now.key, n.key, UNIT, now.message, n.message);
+}
+
+/* The unit stands where the others have associated data. */
+static uint32_t xts_block(struct lengths n)
+{
+    return lagunedo_xts_block(now.key, n.key, UNIT, now.ad, n.ad, BLOCK,
+                              now.message);
+}
+
 struct cipher {
     const char *name;
     uint32_t (*call)(struct lengths n);
@@ -56,6 +76,13 @@ static const struct cipher eme2[] = {
     { "lagunedo_eme2_encipher", eme2_encipher },
     { "lagunedo_eme2_decipher", eme2_decipher }
 };
+
+static const struct cipher xts[] = {
+    { "lagunedo_xts_encipher", xts_encipher },
+    { "lagunedo_xts_decipher", xts_decipher }
+};
+
+static const struct cipher alone = { "lagunedo_xts_block", xts_block };
 
 enum { WAYS = 2, SEED = 1701 };
 
@@ -117,11 +144,41 @@ static void eme2_way(const struct cipher *cipher)
             }
 }
 
+/* Stealing works on the last two blocks one by one. */
+static void xts_way(const struct cipher *cipher)
+{
+    static const size_t messages[] = { 16,  17,  31,  32,  33,   47,  48,
+                                       255, 256, 257, 287, 2096, 4113, 65536 };
+    struct lengths n = { 0, 0, 0 };
+    size_t m;
+
+    for (n.key = LAGUNEDO_XTS_KEY_128; n.key <= LAGUNEDO_XTS_KEY_256; n.key *= 2)
+        for (m = 0; m < sizeof messages / sizeof messages[0]; m++) {
+            n.message = messages[m];
+            compare(cipher, n, LAGUNEDO_DONE);
+        }
+}
+
+/* A block of units that end with it, after it and with a short block. */
+static void xts_alone(void)
+{
+    static const size_t units[] = { 224, 240, 249, 1024 };
+    struct lengths n = { 0, 0, 16 };
+    size_t u;
+
+    for (n.key = LAGUNEDO_XTS_KEY_128; n.key <= LAGUNEDO_XTS_KEY_256; n.key *= 2)
+        for (u = 0; u < sizeof units / sizeof units[0]; u++) {
+            n.ad = units[u];
+            compare(&alone, n, LAGUNEDO_DONE);
+        }
+}
+
 /* A refused call leaves the secret bytes, and chooses by lengths alone. */
 static void refusals(void)
 {
     static const struct lengths key = { 47, 16, 32 }, message = { 48, 16, 15 };
-    static const struct lengths block = { 16, 0, 15 };
+    static const struct lengths block = { 16, 0, 15 }, unit = { 32, 0, 15 };
+    static const struct lengths last = { 32, 239, 16 };
     size_t way;
 
     for (way = 0; way < WAYS; way++) {
@@ -129,7 +186,10 @@ static void refusals(void)
         compare(&aes[way], block, LAGUNEDO_MESSAGE_LENGTH);
         compare(&eme2[way], key, LAGUNEDO_KEY_LENGTH);
         compare(&eme2[way], message, LAGUNEDO_MESSAGE_LENGTH);
+        compare(&xts[way], key, LAGUNEDO_XTS_KEY_LENGTH);
+        compare(&xts[way], unit, LAGUNEDO_UNIT_LENGTH);
     }
+    compare(&alone, last, LAGUNEDO_BLOCK_NOT_ALONE);
 }
 
 void secret_ciphers(void)
@@ -139,7 +199,9 @@ void secret_ciphers(void)
     for (way = 0; way < WAYS; way++) {
         aes_way(&aes[way]);
         eme2_way(&eme2[way]);
+        xts_way(&xts[way]);
     }
+    xts_alone();
     refusals();
 }
 
@@ -148,5 +210,7 @@ void cipher_names(void)
     size_t way;
 
     for (way = 0; way < WAYS; way++)
-        printf("%s\n%s\n", aes[way].name, eme2[way].name);
+        printf("%s\n%s\n%s\n", aes[way].name, eme2[way].name,
+               xts[way].name);
+    printf("%s\n", alone.name);
 }

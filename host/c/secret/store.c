@@ -1,7 +1,7 @@
 /*
  * The sheet store and its rekeying job.
  *
- * Secret are both keys, every text that is lent to a call or to be filled by
+ * Secret are all keys, every text that is lent to a call or to be filled by
  * it, and of each used slot the text, as long as the lead says: in clear it is
  * the sheet itself, and enciphered bytes are hidden too, so that nothing that
  * is made of them is lost from sight.
@@ -26,6 +26,7 @@ enum { SHEET = 305, ABSENT = 401, REVISION = 7, SEED = 1702 };
 
 static struct lent {
     uint8_t old_key[LAGUNEDO_EME2_KEY_256], new_key[LAGUNEDO_EME2_KEY_256];
+    uint8_t xts_key[LAGUNEDO_XTS_KEY_256];
     uint8_t text[LAGUNEDO_TEXT_MOST], store[SLOTS * LAGUNEDO_RECORD_SIZE];
     uint32_t counts[6], length, revision, outcome;
     struct lagunedo_job job;
@@ -82,6 +83,22 @@ static uint32_t add(struct lengths n) { return add_sheet(n, ABSENT); }
 
 static uint32_t add_present(struct lengths n) { return add_sheet(n, SHEET); }
 
+/* The text as a unit under XTS-AES, with a key of either length. */
+static uint32_t add_unit(struct lengths n, uint32_t sheet)
+{
+    size_t half = n.old_key - 32;
+
+    return lagunedo_add_xts(now.xts_key, 2 * half, REVISION, now.text, n.text,
+                            KEYS, STORE, sheet, &now.revision);
+}
+
+static uint32_t add_xts(struct lengths n) { return add_unit(n, ABSENT); }
+
+static uint32_t add_xts_present(struct lengths n)
+{
+    return add_unit(n, SHEET);
+}
+
 static uint32_t revise_seen(struct lengths n, uint32_t seen)
 {
     return lagunedo_revise(KEYS, STORE, SHEET, seen, now.text, n.text,
@@ -134,6 +151,8 @@ static const struct {
               { "lagunedo_read", read_absent, LAGUNEDO_NO_SHEET },
               { "lagunedo_add", add, LAGUNEDO_DONE },
               { "lagunedo_add", add_present, LAGUNEDO_SHEET_PRESENT },
+              { "lagunedo_add_xts", add_xts, LAGUNEDO_DONE },
+              { "lagunedo_add_xts", add_xts_present, LAGUNEDO_SHEET_PRESENT },
               { "lagunedo_revise", revise, LAGUNEDO_DONE },
               { "lagunedo_revise", revise_late, LAGUNEDO_OTHER_REVISION },
               { "lagunedo_remove", remove_sheet, LAGUNEDO_DONE },
@@ -165,6 +184,7 @@ static void lend(size_t length, uint8_t mark)
     fill(now.old_key, sizeof now.old_key, SEED);
     fill(now.new_key, sizeof now.new_key, SEED + 1);
     fill(now.text, sizeof now.text, SEED + 2);
+    fill(now.xts_key, sizeof now.xts_key, SEED + 3);
     put_sheet(BESIDE, SHEET - 1, LAGUNEDO_MARK_CLEAR, 40);
     put_sheet(FOUND, SHEET, mark, length);
     put_sheet(LAST, SHEET + 1, LAGUNEDO_MARK_OLD_KEY, 33);
@@ -178,6 +198,7 @@ static void hide_secrets(void)
     hide(now.old_key, sizeof now.old_key);
     hide(now.new_key, sizeof now.new_key);
     hide(now.text, sizeof now.text);
+    hide(now.xts_key, sizeof now.xts_key);
     for (slot = 0; slot < SLOTS; slot++)
         hide(slot_of(&now, slot) + LAGUNEDO_LEAD_SIZE,
              lead_read(slot_of(&now, slot)).length);

@@ -20,8 +20,8 @@ release() {
 # A second run that changes the store is refused at once; those that look go on and see the old store.
 hold add shared 305 $keys 3<blue
 note shared
-for words in "add shared 306 $keys" "revise shared 305 1 $keys" "remove shared 305" "rekey shared $keys" \
-    "begin shared --key new.key --seen $(fingerprint_of shared)"; do
+for words in "add shared 306 $keys" "import-xts shared 306 $keys --xts-key disk32.key --unit 7" "revise shared 305 1 $keys" \
+    "remove shared 305" "rekey shared $keys" "begin shared --key new.key --seen $(fingerprint_of shared)"; do
     gives 103 $words <dry
     says "shared: in use by another run"
 done

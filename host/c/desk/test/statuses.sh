@@ -55,6 +55,29 @@ wrong list store --copies 2
 wrong rekey store $keys --copies 0
 wrong rekey store $keys --copies 65
 wrong rekey store $keys --copies many
+wrong import-xts store 305 $keys --unit 7
+says "--xts-key goes with import-xts"
+wrong import-xts store 305 $keys --xts-key disk32.key
+says "--unit goes with import-xts"
+wrong import-xts store 305 --xts-key disk32.key --unit 7
+wrong import-xts store $keys --xts-key disk32.key --unit 7
+wrong import-xts store 305 $keys --xts-key disk32.key --unit 7 --block 0
+wrong import-xts store 305 $keys --xts-key disk32.key --unit 18446744073709551616
+says "not a number from 0 to 18446744073709551615: 18446744073709551616"
+wrong import-xts store 305 $keys --xts-key disk32.key --unit 99999999999999999999
+wrong import-xts store 305 $keys --xts-key disk32.key --unit -1
+wrong import-xts store 305 $keys --xts-key disk32.key --unit 0x7
+wrong import-xts store 305 $keys --xts-key disk32.key --unit ""
+wrong add store 305 $keys --unit 7
+says "--unit does not go with add"
+wrong xts-block store --xts-key disk32.key --unit 7 --block 0
+says "one word too many: store"
+wrong xts-block --unit 7 --block 0
+wrong xts-block --xts-key disk32.key --block 0
+wrong xts-block --xts-key disk32.key --unit 7
+says "--block goes with xts-block"
+wrong xts-block --xts-key disk32.key --unit 7 --block 0 --key new.key
+wrong xts-block --xts-key disk32.key --unit 7 --block 0 --wait
 kept store
 check "no store is made by wrong usage" [ ! -e none ]
 

@@ -36,6 +36,7 @@ cut_and_retry() { # BEFORE AFTER TEXT AGAIN COMMAND STORE WORDS..
 cat blue305 free >had
 cat blue305 dry306 >has
 cut_and_retry had has dry 11 add cut 306 $keys
+cut_and_retry had has dry.unit 11 import-xts cut 306 $keys --xts-key disk32.key --unit 7
 cat dry305 free >has
 cut_and_retry had has dry 8 revise cut 305 1 $keys
 says "refused with 8: "

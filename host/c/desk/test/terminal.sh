@@ -43,6 +43,12 @@ $(cat blue)" ]
         check "letters of the locale are shown" grep -qF "$(printf '[31m\303\244\\xff LAST')" seen
     fi
 
+    # So it is with a block.
+    printf 'BELL\007 \377 \\ SIXTEEN' | head -c 16 >odd
+    unit odd.unit disk32.key 7 odd
+    at_terminal odd.unit xts-block --xts-key disk32.key --unit 7 --block 0 "<odd.unit"
+    check "a block is escaped" grep -qF 'BELL\x07 \xff \\ SIXTEE' seen
+
     # A text from the terminal itself: what is read is said, and end of input ends it.
     printf 'PRESS 2 BLUE, DRY 20 MIN\n\004' >typed
     gives 0 new typed.store 1
@@ -51,6 +57,8 @@ $(cat blue)" ]
     holds typed.store blue305
     at_terminal typed revise typed.store 305 1 $keys
     check "revise says so too" grep -q 'reads the text until end of input' seen
+    at_terminal typed xts-block --xts-key disk32.key --unit 7 --block 0
+    check "xts-block says so of a unit" grep -q 'reads the unit until end of input' seen
 fi
 gives 0 new piped.store 1
 gives 0 add piped.store 305 $keys <blue

@@ -27,12 +27,16 @@ pub enum What {
     Remove,
     Step,
     JobStep,
+    XtsEncipher,
+    XtsDecipher,
+    XtsBlock,
+    AddXts,
 }
 
-/// 01, order: the numbers that each call returns in place of a result, in the
-/// order in which it tests them. Read has 14 as its last, which never comes
-/// about.
-pub const ORDER: [(What, &[u32]); 11] = [
+/// 01, order, and 02, order 3: the numbers that each call returns in place of a
+/// result, in the order in which it tests them. Read has 14 as its last, which
+/// never comes about.
+pub const ORDER: [(What, &[u32]); 15] = [
     (What::AesEncipher, &[1, 2]),
     (What::AesDecipher, &[1, 2]),
     (What::Eme2Encipher, &[1, 2, 3]),
@@ -44,10 +48,14 @@ pub const ORDER: [(What, &[u32]); 11] = [
     (What::Remove, &[4, 5, 7]),
     (What::Step, &[1, 4]),
     (What::JobStep, &[1, 4]),
+    (What::XtsEncipher, &[15, 16]),
+    (What::XtsDecipher, &[15, 16]),
+    (What::XtsBlock, &[15, 16, 17]),
+    (What::AddXts, &[15, 16, 1, 4, 5, 6, 11, 10]),
 ];
 
 impl What {
-    /// For AES and the transform, the call that undoes this one.
+    /// For AES and the transforms, the call that undoes this one.
     #[must_use]
     pub const fn undoing(self) -> Option<Self> {
         match self {
@@ -55,6 +63,8 @@ impl What {
             Self::AesDecipher => Some(Self::AesEncipher),
             Self::Eme2Encipher => Some(Self::Eme2Decipher),
             Self::Eme2Decipher => Some(Self::Eme2Encipher),
+            Self::XtsEncipher => Some(Self::XtsDecipher),
+            Self::XtsDecipher => Some(Self::XtsEncipher),
             _ => None,
         }
     }
@@ -76,20 +86,41 @@ pub struct Call {
     pub sheet: u32,
     /// The revision that the operator saw.
     pub seen: u32,
+    /// The number of a unit.
+    pub number: u64,
+    /// Which block of the unit.
+    pub k: u64,
 }
 
-/// What is lent to a call, which takes of it what it needs. AES and the
-/// transform take the old key, and the text for their block or message. The
-/// words are for the numbers that a call answers, from the first: check has
-/// its slot and then its counts, read the length and the revision, add and
-/// revise the revision, a step its outcome.
+impl Call {
+    /// With 0 for every number.
+    #[must_use]
+    pub const fn of(what: What) -> Self {
+        Self {
+            what,
+            sheet: 0,
+            seen: 0,
+            number: 0,
+            k: 0,
+        }
+    }
+}
+
+/// What is lent to a call, which takes of it what it needs. AES and EME2 take
+/// the old key, and the text for their block or message. The calls of XTS take
+/// the XTS key, and the text for their unit; one block of it goes to `block`.
+/// The words are for the numbers that a call answers, from the first: check has
+/// its slot and then its counts, read the length and the revision, what adds or
+/// revises the revision, a step its outcome.
 #[allow(missing_docs)] // the names say it
 pub struct Lent<'a> {
     pub old_key: &'a [u8],
     pub new_key: &'a [u8],
+    pub xts_key: &'a [u8],
     pub data: &'a [u8],
     pub store: &'a mut [u8],
     pub text: &'a mut [u8],
+    pub block: &'a mut [u8; 16],
     pub place: &'a mut u64,
     pub words: [&'a mut u32; 6],
 }
@@ -100,9 +131,11 @@ pub struct Lent<'a> {
 pub struct Memory {
     pub old_key: Vec<u8>,
     pub new_key: Vec<u8>,
+    pub xts_key: Vec<u8>,
     pub data: Vec<u8>,
     pub store: Vec<u8>,
     pub text: Vec<u8>,
+    pub block: [u8; 16],
     pub place: u64,
     pub words: [u32; 6],
 }
@@ -113,9 +146,11 @@ impl Memory {
         Lent {
             old_key: &self.old_key,
             new_key: &self.new_key,
+            xts_key: &self.xts_key,
             data: &self.data,
             store: &mut self.store,
             text: &mut self.text,
+            block: &mut self.block,
             place: &mut self.place,
             words: self.words.each_mut(),
         }
@@ -125,11 +160,13 @@ impl Memory {
     #[must_use]
     pub fn difference(&self, other: &Self) -> Option<String> {
         for (name, ours, theirs) in [
-            ("old key", &self.old_key, &other.old_key),
+            ("old key", &self.old_key[..], &other.old_key[..]),
             ("new key", &self.new_key, &other.new_key),
+            ("XTS key", &self.xts_key, &other.xts_key),
             ("associated data", &self.data, &other.data),
             ("store", &self.store, &other.store),
             ("text", &self.text, &other.text),
+            ("block", &self.block, &other.block),
         ] {
             if ours == theirs {
                 continue;

@@ -2,9 +2,10 @@
 
 use crate::{Call, Lent, What};
 use lagunedo::raw::{
-    lagunedo_add, lagunedo_aes_decipher, lagunedo_aes_encipher, lagunedo_check,
+    lagunedo_add, lagunedo_add_xts, lagunedo_aes_decipher, lagunedo_aes_encipher, lagunedo_check,
     lagunedo_eme2_decipher, lagunedo_eme2_encipher, lagunedo_job_step, lagunedo_read,
-    lagunedo_remove, lagunedo_revise, lagunedo_step,
+    lagunedo_remove, lagunedo_revise, lagunedo_step, lagunedo_xts_block, lagunedo_xts_decipher,
+    lagunedo_xts_encipher,
 };
 use lagunedo::Job;
 use std::ptr::from_mut;
@@ -12,16 +13,23 @@ use std::ptr::from_mut;
 /// What the library returns.
 #[must_use]
 pub fn by_library(call: &Call, lent: Lent) -> u32 {
-    let Call { what, sheet, seen } = *call;
+    let Call {
+        what,
+        sheet,
+        seen,
+        number,
+        k,
+    } = *call;
     let (old, old_len) = (lent.old_key.as_ptr(), lent.old_key.len());
     let (new, new_len) = (lent.new_key.as_ptr(), lent.new_key.len());
+    let (xts, xts_len) = (lent.xts_key.as_ptr(), lent.xts_key.len());
     let (data, data_len) = (lent.data.as_ptr(), lent.data.len());
     let (text, text_len) = (lent.text.as_mut_ptr(), lent.text.len());
     let (store, store_len) = (lent.store.as_mut_ptr(), lent.store.len());
     let [w0, w1, w2, w3, w4, w5] = lent.words.map(from_mut);
-    let place = from_mut(lent.place);
-    // SAFETY: each pointer is that of a slice, with its length, or of a word
-    // or a place. What may be written is borrowed mutably, and so overlaps
+    let (place, block) = (from_mut(lent.place), from_mut(lent.block));
+    // SAFETY: each pointer is that of a slice, with its length, or of a word,
+    // a place or a block. What may be written is borrowed mutably, and so overlaps
     // nothing. A job is nothing but its place.
     unsafe {
         match what {
@@ -49,6 +57,13 @@ pub fn by_library(call: &Call, lent: Lent) -> u32 {
                 let job = place.cast::<Job>();
                 lagunedo_job_step(job, old, old_len, new, new_len, store, store_len, w0)
             }
+            What::XtsEncipher => lagunedo_xts_encipher(xts, xts_len, number, text, text_len),
+            What::XtsDecipher => lagunedo_xts_decipher(xts, xts_len, number, text, text_len),
+            What::XtsBlock => lagunedo_xts_block(xts, xts_len, number, text, text_len, k, block),
+            What::AddXts => lagunedo_add_xts(
+                xts, xts_len, number, text, text_len, old, old_len, new, new_len, store, store_len,
+                sheet, w0,
+            ),
         }
     }
 }

@@ -2,8 +2,8 @@
 
 use crate::{Call, Lent, What, FAULT};
 use lagunedo::{
-    add, aes_decipher, aes_encipher, check, eme2_decipher, eme2_encipher, job_step, read, remove,
-    revise, step, Checked, Job, Refusal,
+    add, add_xts, aes_decipher, aes_encipher, check, eme2_decipher, eme2_encipher, job_step, read,
+    remove, revise, step, xts_block, xts_decipher, xts_encipher, Checked, Job, Refusal,
 };
 
 /// What the safe function returns, as a number.
@@ -15,6 +15,7 @@ pub fn by_safe(call: &Call, lent: Lent) -> u32 {
 fn made(call: &Call, lent: Lent) -> Result<u32, Refusal> {
     let (old, new, data) = (lent.old_key, lent.new_key, lent.data);
     let (store, text, sheet) = (lent.store, lent.text, call.sheet);
+    let (xts, number) = (lent.xts_key, call.number);
     let [w0, w1, w2, w3, w4, w5] = lent.words;
     match call.what {
         What::AesEncipher => aes_encipher(old, text)?,
@@ -44,6 +45,10 @@ fn made(call: &Call, lent: Lent) -> Result<u32, Refusal> {
             *lent.place = job.place;
             *w0 = outcome? as u32;
         }
+        What::XtsEncipher => xts_encipher(xts, number, text)?,
+        What::XtsDecipher => xts_decipher(xts, number, text)?,
+        What::XtsBlock => *lent.block = xts_block(xts, number, text, call.k)?,
+        What::AddXts => *w0 = add_xts(xts, number, text, old, new, store, sheet)?,
     }
     Ok(0)
 }

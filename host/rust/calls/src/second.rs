@@ -1,7 +1,9 @@
 //! A call by the second implementation.
 
 use crate::{Call, Lent, What, FAULT};
-use second::{add, aes, check, eme2, read, remove, revise, step, Checked, Keys};
+use second::{
+    add, add_xts, aes, check, eme2, read, remove, revise, step, xts, xts_block, Checked, Keys,
+};
 
 /// What the second implementation returns.
 #[must_use]
@@ -12,6 +14,9 @@ pub fn by_second(call: &Call, lent: Lent) -> u32 {
         What::AesDecipher => aes(key, true, lent.text),
         What::Eme2Encipher => eme2(key, false, lent.data, lent.text),
         What::Eme2Decipher => eme2(key, true, lent.data, lent.text),
+        What::XtsEncipher => xts(lent.xts_key, false, call.number, lent.text),
+        What::XtsDecipher => xts(lent.xts_key, true, call.number, lent.text),
+        What::XtsBlock => xts_block(lent.xts_key, call.number, lent.text, call.k, lent.block),
         _ => on_store(call, lent).map_or_else(|number| number, |()| 0),
     }
 }
@@ -38,6 +43,7 @@ fn on_store(call: &Call, lent: Lent) -> Result<(), u32> {
         What::Add => *w0 = add(keys, store, sheet, text)?,
         What::Revise => *w0 = revise(keys, store, sheet, call.seen, text)?,
         What::Remove => remove(store, sheet)?,
+        What::AddXts => *w0 = add_xts(lent.xts_key, call.number, text, keys, store, sheet)?,
         _ => *w0 = step(keys, store, lent.place)? as u32,
     }
     Ok(())

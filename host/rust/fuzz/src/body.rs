@@ -65,6 +65,7 @@ impl Play {
             memory: Memory {
                 old_key: random.bytes(KEY_MOST),
                 new_key: random.bytes(KEY_MOST),
+                xts_key: random.bytes(KEY_MOST),
                 store: store::drawn(script),
                 ..Memory::default()
             },
@@ -80,6 +81,7 @@ impl Play {
         *place = drawn.place.unwrap_or(*place);
         self.memory.data = random.bytes(drawn.data);
         self.memory.text = random.bytes(drawn.text);
+        random.fill(&mut self.memory.block);
         self.memory.words = [(); 6].map(|()| random.word() as u32);
         self.memory.place = *place;
         let before = self.memory.text.clone();
@@ -121,6 +123,7 @@ fn cut<'a>(drawn: &Drawn, memory: &'a mut Memory) -> Lent<'a> {
         true => lent.old_key,
         false => &lent.new_key[..drawn.new_key],
     };
+    lent.xts_key = &lent.xts_key[..drawn.xts_key];
     lent.store = &mut lent.store[..drawn.store];
     lent
 }

@@ -1,9 +1,9 @@
 //! The call that a script asks for next, on what the memory now holds.
 
-use crate::script::{Script, DATA, LONG_MESSAGE, MESSAGE, TEXT};
+use crate::script::{Lengths, Script, DATA, LONG_MESSAGE, MESSAGE, TEXT, UNIT};
 use calls::What::{
-    Add, AesDecipher, AesEncipher, Check, Eme2Decipher, Eme2Encipher, JobStep, Read, Remove,
-    Revise, Step,
+    Add, AddXts, AesDecipher, AesEncipher, Check, Eme2Decipher, Eme2Encipher, JobStep, Read,
+    Remove, Revise, Step, XtsBlock, XtsDecipher, XtsEncipher,
 };
 use calls::{Call, What};
 use second::record::{Lead, RECORD};
@@ -16,7 +16,7 @@ pub const COPIES: usize = 3;
 
 /// How often each call is asked for. The store's are the more eventful, and
 /// zeros, which a fuzzer likes, ask for one of them.
-const FREQUENT: [What; 16] = [
+const FREQUENT: [What; 22] = [
     Read,
     Read,
     Add,
@@ -33,7 +33,16 @@ const FREQUENT: [What; 16] = [
     AesDecipher,
     Eme2Encipher,
     Eme2Decipher,
+    XtsEncipher,
+    XtsDecipher,
+    XtsBlock,
+    XtsBlock,
+    AddXts,
+    AddXts,
 ];
+
+/// Numbers of units at the ends of their bytes.
+const NUMBERS: [u64; 4] = [0, 255, 1 << 32, u64::MAX];
 
 /// Places that no store has. Multiplied by a slot's bytes, the last five leave
 /// 64 bits and come back to 0 or little above it.
@@ -55,6 +64,7 @@ pub struct Drawn {
     pub new_key: usize,
     /// The old key is lent as the new one too.
     pub one_key: bool,
+    pub xts_key: usize,
     pub data: usize,
     pub text: usize,
     /// The front of the store that is lent.
@@ -72,19 +82,33 @@ pub fn drawn(script: &mut Script, keys: [usize; 2], store: &[u8]) -> Drawn {
     match what {
         AesEncipher | AesDecipher => draw_block(script, &mut drawn),
         Eme2Encipher | Eme2Decipher => {
-            let lengths = if script.chance(255) {
-                MESSAGE
-            } else {
-                LONG_MESSAGE
-            };
-            drawn.text = script.length(&lengths);
+            drawn.text = mostly(script, &MESSAGE);
             drawn.data = script.length(&DATA);
+        }
+        XtsEncipher | XtsDecipher | XtsBlock => {
+            draw_unit(script, &mut drawn);
+            drawn.text = mostly(script, &UNIT);
+            drawn.call.k = block(script, drawn.text);
         }
         Check => (),
         Step | JobStep => draw_step(script, &mut drawn),
         Read | Add | Revise | Remove => draw_by_sheet(script, &store[..drawn.store], &mut drawn),
+        AddXts => {
+            draw_unit(script, &mut drawn);
+            drawn.call.sheet = sheet(script, Add, &store[..drawn.store]);
+            drawn.text = mostly(script, &TEXT);
+        }
     }
     drawn
+}
+
+/// A length of these, or now and then one at the end of the longest.
+fn mostly(script: &mut Script, lengths: &Lengths) -> usize {
+    if script.chance(255) {
+        script.length(lengths)
+    } else {
+        script.length(&LONG_MESSAGE)
+    }
 }
 
 /// Mostly the usual keys and the whole store. One call in four gets others: a
@@ -102,16 +126,12 @@ fn usual(script: &mut Script, what: What, [old, new]: [usize; 2], whole: usize) 
     if odd(8) {
         store -= usize::from(script.byte()) % (store / RECORD + 1) * RECORD;
     }
-    let call = Call {
-        what,
-        sheet: 0,
-        seen: 0,
-    };
     Drawn {
-        call,
+        call: Call::of(what),
         old_key,
         new_key: if odd(16) { old_key } else { new_key },
         one_key: odd(16),
+        xts_key: 0,
         data: 0,
         text: 0,
         store,
@@ -135,6 +155,34 @@ fn draw_block(script: &mut Script, drawn: &mut Drawn) {
         _ if choice % 2 == 1 => 16,
         _ => 32,
     };
+}
+
+/// The unit's key and number.
+fn draw_unit(script: &mut Script, drawn: &mut Drawn) {
+    let choice = script.byte();
+    drawn.xts_key = match choice {
+        240.. => key_length(script),
+        _ if choice % 2 == 1 => 32,
+        _ => 64,
+    };
+    drawn.call.number = match script.byte() {
+        choice @ ..128 => NUMBERS[usize::from(choice) % NUMBERS.len()],
+        _ => script.number(8),
+    };
+}
+
+/// A block of a unit of so many bytes: mostly one that is there, often on
+/// either side of the last that can be read alone; any.
+fn block(script: &mut Script, length: usize) -> u64 {
+    let full = length / 16;
+    match script.byte() {
+        ..128 => script.below(full + 1) as u64,
+        128..144 => full.wrapping_sub(2) as u64,
+        144..192 => full.wrapping_sub(1) as u64,
+        192..224 => full as u64,
+        224..240 => full as u64 + 1,
+        _ => script.number(8),
+    }
 }
 
 fn draw_by_sheet(script: &mut Script, store: &[u8], drawn: &mut Drawn) {

@@ -145,19 +145,22 @@ impl Numbers {
     }
 }
 
-/// A yard for each byte string: the keys, the associated data, the text and
-/// the store.
-pub struct Room([Yard; 5]);
+/// A yard for each byte string: the keys, the associated data, the text, the
+/// block and the store.
+pub struct Room([Yard; 7]);
 
 impl Room {
     pub fn open() -> Self {
-        Self([KEY_MOST, KEY_MOST, 1_100, 65_537, STORE_MOST].map(Yard::open))
+        let keys = [KEY_MOST; 3];
+        let [old, new, xts] = keys.map(Yard::open);
+        let [data, text, block, store] = [1_100, 65_537, 16, STORE_MOST].map(Yard::open);
+        Self([old, new, xts, data, text, block, store])
     }
 
     /// Makes the call by the library, on a copy of the memory: what it
     /// returns, and the memory after it.
     pub fn made(&mut self, drawn: &Drawn, memory: &Memory, near: Near) -> Made {
-        let [old, new, data, text, store] = &mut self.0;
+        let [old, new, xts, data, text, block, store] = &mut self.0;
         let mut numbers = Numbers::new(memory);
         // Whoever has its address may write to all of it, for all that the
         // compiler knows: that is what is looked at afterwards.
@@ -168,8 +171,10 @@ impl Room {
         let lent = Lent {
             old_key,
             new_key: if drawn.one_key { old_key } else { new_key },
+            xts_key: xts.lend(&memory.xts_key[..drawn.xts_key], near),
             data: data.lend(&memory.data, near),
             text: text.lend(&memory.text, near),
+            block: (block.lend(&memory.block, near).try_into()).expect("16 bytes"),
             store: store.lend(&memory.store[..drawn.store], near),
             place,
             words,
@@ -178,8 +183,10 @@ impl Room {
         let mut after = memory.clone();
         after.old_key[..drawn.old_key].copy_from_slice(&old.back("old key")?);
         after.new_key[..drawn.new_key].copy_from_slice(&new.back("new key")?);
+        after.xts_key[..drawn.xts_key].copy_from_slice(&xts.back("XTS key")?);
         after.data = data.back("associated data")?;
         after.text = text.back("text")?;
+        after.block.copy_from_slice(&block.back("block")?);
         after.store[..drawn.store].copy_from_slice(&store.back("store")?);
         (after.words, after.place) = black_box(numbers).back()?;
         Ok((number, after))

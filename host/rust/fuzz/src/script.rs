@@ -30,6 +30,12 @@ pub const MESSAGE: Lengths = Lengths {
     edges: &[0, 15, 16, 17, 2_048, 2_049, 2_064, 2_065, 4_112, 4_113],
     most: 4_200,
 };
+pub const UNIT: Lengths = Lengths {
+    few: 16,
+    edges: &[0, 15, 16, 17, 31, 32, 33, 2_096, 2_097, 4_112, 4_113],
+    most: 4_200,
+};
+/// The longest messages and units.
 pub const LONG_MESSAGE: Lengths = Lengths {
     few: 65_505,
     edges: &[65_535, 65_536, 65_537],

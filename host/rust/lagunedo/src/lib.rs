@@ -5,6 +5,8 @@
 //! - [`eme2_encipher`], [`eme2_decipher`]: a whole message
 //! - [`check`], [`read`], [`add`], [`revise`], [`remove`]: a store of sheets
 //! - [`step`], [`job_step`]: its rekeying
+//! - [`xts_encipher`], [`xts_decipher`], [`xts_block`], [`add_xts`]: sheets under
+//!   XTS-AES, to be taken over
 //! - [`raw`]: all of them as C has them
 //! - [`Refusal`]: why a call did nothing; [`RECORD_SIZE`] and the other sizes
 //!
@@ -43,6 +45,7 @@ pub mod raw;
 mod refusal;
 mod sizes;
 mod store;
+mod xts;
 
 pub use job::{job_step, step, Job, Outcome};
 use raw::{
@@ -52,6 +55,7 @@ use refusal::answer;
 pub use refusal::Refusal;
 pub use sizes::*;
 pub use store::{add, check, read, remove, revise, Checked, Counts, Found, FAULT};
+pub use xts::{add_xts, xts_block, xts_decipher, xts_encipher};
 
 /// Enciphers one block in place with AES-128 (a key of 16 bytes) or AES-256
 /// (one of 32).

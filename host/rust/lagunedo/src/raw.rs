@@ -133,4 +133,50 @@ extern "C" {
         store_length: usize,
         outcome: *mut u32,
     ) -> u32;
+
+    /// [`xts_encipher`](crate::xts_encipher).
+    pub fn lagunedo_xts_encipher(
+        key: *const u8,
+        key_length: usize,
+        number: u64,
+        unit: *mut u8,
+        unit_length: usize,
+    ) -> u32;
+
+    /// [`xts_decipher`](crate::xts_decipher).
+    pub fn lagunedo_xts_decipher(
+        key: *const u8,
+        key_length: usize,
+        number: u64,
+        unit: *mut u8,
+        unit_length: usize,
+    ) -> u32;
+
+    /// [`xts_block`](crate::xts_block).
+    pub fn lagunedo_xts_block(
+        key: *const u8,
+        key_length: usize,
+        number: u64,
+        unit: *const u8,
+        unit_length: usize,
+        k: u64,
+        block: *mut [u8; 16],
+    ) -> u32;
+
+    /// [`add_xts`](crate::add_xts).
+    pub fn lagunedo_add_xts(
+        xts_key: *const u8,
+        xts_key_length: usize,
+        number: u64,
+        unit: *const u8,
+        unit_length: usize,
+        old_key: *const u8,
+        old_key_length: usize,
+        new_key: *const u8,
+        new_key_length: usize,
+        store: *mut u8,
+        store_length: usize,
+        sheet: u32,
+        revision: *mut u32,
+    ) -> u32;
 }

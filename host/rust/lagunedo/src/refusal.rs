@@ -1,6 +1,6 @@
-//! The numbers of 01, "Numbers returned in place of a result", under the names
-//! of `lagunedo.h` and with its words. `tests/header.rs` holds them to its
-//! table.
+//! The numbers of 01, "Numbers returned in place of a result", and of 02, under
+//! the names of `lagunedo.h` and with its words. `tests/header.rs` holds them to
+//! its table.
 
 use std::error::Error;
 use std::fmt;
@@ -8,7 +8,7 @@ use std::fmt;
 /// Makes the enum and the two tables from one row a refusal.
 macro_rules! refusals {
     ($($name:ident = $number:literal, $meaning:literal, $doc:literal;)*) => {
-        /// Why a call did nothing, by its number in 01's table.
+        /// Why a call did nothing, by its number in 01 or 02.
         #[derive(Clone, Copy, Debug, Eq, Hash, PartialEq)]
         #[repr(u32)]
         pub enum Refusal {
@@ -68,10 +68,16 @@ refusals! {
         "The lent buffer is shorter than the text.";
     LengthChanged = 14, "the text length changed in deciphering",
         "The text length changed in deciphering. The number has its place in 01's table, and no call returns it.";
+    XtsKeyLength = 15, "an XTS key is not 32 or 64 bytes long",
+        "The XTS key is neither [`XTS_KEY_128`](crate::XTS_KEY_128) nor [`XTS_KEY_256`](crate::XTS_KEY_256) bytes long.";
+    UnitLength = 16, "a unit is below 16 or above 65,536 bytes",
+        "The unit is shorter than [`UNIT_LEAST`](crate::UNIT_LEAST) or longer than [`UNIT_MOST`](crate::UNIT_MOST).";
+    BlockNotAlone = 17, "the block cannot be read alone: past the end, or tied to odd bytes",
+        "The unit has no block of that number, or it was enciphered together with the odd bytes at the unit's end.";
 }
 
 impl Refusal {
-    /// The number in 01's table.
+    /// The number in 01 or 02.
     #[must_use]
     pub const fn number(self) -> u32 {
         self as u32

@@ -27,5 +27,13 @@ pub const TEXT_LEAST: usize = 16;
 pub const TEXT_MOST: usize = 2_096;
 /// The slots of the largest store.
 pub const SLOT_LIMIT: usize = 1_024;
+/// The bytes of a key of XTS-AES with AES-128 inside.
+pub const XTS_KEY_128: usize = 32;
+/// The bytes of a key of XTS-AES with AES-256 inside.
+pub const XTS_KEY_256: usize = 64;
+/// The bytes of the shortest unit.
+pub const UNIT_LEAST: usize = 16;
+/// The bytes of the longest unit.
+pub const UNIT_MOST: usize = 65_536;
 /// The bytes of stack that a call takes at most.
 pub const STACK_MOST: usize = 8_192;

@@ -5,12 +5,13 @@
 
 mod ways;
 
+use calls::FAULT;
 use lagunedo::{read, Refusal};
 use second::listing;
-use second::record::{self, Lead, CLEAR, NEW, OLD};
+use second::record::{self, Lead, CLEAR, NEW, OLD, RECORD};
 use std::fs;
 use std::path::Path;
-use ways::{agree, Call, Memory, What, FAULT, RECORD};
+use ways::{agree, Call, Memory, What};
 
 /// A sheet that had been removed when the store was kept.
 const REMOVED: u32 = 310;
@@ -94,11 +95,7 @@ fn what_is_kept() {
 /// Its counts; and with any one of bytes 12 to 15 set, the slot, as before.
 #[test]
 fn checked() {
-    let call = Call {
-        what: What::Check,
-        sheet: 0,
-        seen: 0,
-    };
+    let call = Call::of(What::Check);
     let (number, after) = agree(&call, &earlier(), 0, &|| "as kept".to_owned());
     assert_eq!((number, after.words), (0, [0, 16, 2, 3, 6, 7]));
     for (slot, lead) in rows() {
@@ -139,9 +136,9 @@ fn revised() {
     for (slot, lead) in rows() {
         memory.text = text(lead.sheet);
         let call = Call {
-            what: What::Revise,
             sheet: lead.sheet,
             seen: lead.revision,
+            ..Call::of(What::Revise)
         };
         let name = || format!("sheet {}", lead.sheet);
         let (number, after) = agree(&call, &memory, 0, &name);
@@ -163,11 +160,7 @@ fn revised() {
 #[test]
 fn rekeyed() {
     let mut memory = earlier();
-    let call = Call {
-        what: What::Step,
-        sheet: 0,
-        seen: 0,
-    };
+    let call = Call::of(What::Step);
     let slots = memory.store.len() / RECORD;
     for slot in 0..slots {
         let wanted = match Lead::of(&memory.store[slot * RECORD..]) {

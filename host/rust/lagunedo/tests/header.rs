@@ -69,7 +69,7 @@ fn refusals_are_the_headers() {
 #[test]
 fn no_other_number_is_a_refusal() {
     assert_eq!(Refusal::from_number(0), None);
-    for number in (15..=300).chain([65_537, u32::MAX]) {
+    for number in (18..=300).chain([65_537, u32::MAX]) {
         assert_eq!(Refusal::from_number(number), None, "{number}");
     }
 }
@@ -118,6 +118,10 @@ fn sizes_are_the_headers() {
         TEXT_LEAST,
         TEXT_MOST,
         SLOT_LIMIT,
+        XTS_KEY_128,
+        XTS_KEY_256,
+        UNIT_LEAST,
+        UNIT_MOST,
         STACK_MOST,
     ];
     assert_eq!(sizes(), ours);

@@ -4,8 +4,9 @@
 
 mod ways;
 
-use second::record::{Lead, CLEAR, LEAD};
-use ways::{agree, Call, Memory, What, FAULT, RECORD};
+use calls::FAULT;
+use second::record::{Lead, CLEAR, LEAD, RECORD};
+use ways::{agree, Call, Memory, What};
 
 /// The most slots of all.
 const LARGEST: usize = 1_024;
@@ -32,6 +33,7 @@ fn last_slot() {
     let before = Memory {
         old_key: vec![1; 48],
         new_key: vec![2; 64],
+        xts_key: vec![3; 32],
         store: full(),
         text: vec![7; 20],
         place: LARGEST as u64 - 1,
@@ -52,6 +54,9 @@ fn last_slot() {
         (What::Add, &before, 11, 0, false),
         (What::Add, &repeated, 10, 0, false),
         (What::Add, &freed, 0, 1, true),
+        (What::AddXts, &before, 11, 0, false),
+        (What::AddXts, &repeated, 10, 0, false),
+        (What::AddXts, &freed, 0, 1, true),
         (What::Revise, &before, 0, 10, true),
         (What::Revise, &freed, 7, 0, false),
         (What::Remove, &before, 0, 0, true),
@@ -61,7 +66,11 @@ fn last_slot() {
         (What::Step, &beyond, 0, 0, false),
     ] {
         let (sheet, seen) = (LARGEST as u32, 9);
-        let call = Call { what, sheet, seen };
+        let call = Call {
+            sheet,
+            seen,
+            ..Call::of(what)
+        };
         let (answer, after) = agree(&call, memory, 0, &|| "the last slot".to_owned());
         assert_eq!((answer, after.words[0]), (number, word), "{call:?}");
         assert!(after.store[..last] == memory.store[..last], "{call:?}");

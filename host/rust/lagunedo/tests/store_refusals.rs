@@ -1,19 +1,34 @@
 //! Which calls of the store are refused, with which number, and that all lent
-//! memory then holds what it held. 01's order is held to by every set of
-//! faults that a call can have at once: the first in the order is answered.
+//! memory then holds what it held; a conversion is one of them. 01's order, and
+//! 02's before it, is held to by every set of faults that a call can have at
+//! once: the first in the order is answered.
 
 mod ways;
 
+use calls::FAULT;
 use inputs::Random;
 use lagunedo::Refusal;
-use second::record::{Lead, CLEAR, LEAD, OLD};
-use ways::{agree, Call, Memory, What, FAULT, RECORD};
+use second::record::{Lead, CLEAR, LEAD, OLD, RECORD};
+use ways::{agree, Call, Memory, What};
 
 const SEED: u64 = 0x0057_04eb_ad00;
 
-/// The orders of the store's calls; a step with its job lent has that of a
-/// step.
-const ORDER: &[(What, &[u32])] = calls::ORDER.split_at(4).1.split_at(6).0;
+/// The store's calls; a step with its job lent is made where a step is.
+const WHATS: [What; 7] = [
+    What::Check,
+    What::Read,
+    What::Add,
+    What::Revise,
+    What::Remove,
+    What::Step,
+    What::AddXts,
+];
+
+/// Each with its order.
+fn orders() -> impl Iterator<Item = (What, &'static [u32])> {
+    let all = calls::ORDER.into_iter();
+    all.filter(|(what, _)| WHATS.contains(what))
+}
 
 /// The sheet that is asked for, and the slot where it stands.
 const SHEET: u32 = 305;
@@ -50,20 +65,23 @@ fn good(what: What, random: &mut Random) -> (Call, Memory) {
         random.fill(&mut slot[LEAD..lead.text_end()]);
     }
     store[RECORD..2 * RECORD].fill(0);
-    if what != What::Add {
+    if ![What::Add, What::AddXts].contains(&what) {
         change(&mut store, SLOT, |lead| lead.sheet = SHEET);
     }
     let call = Call {
-        what,
         sheet: SHEET,
         seen: 2,
+        number: random.word(),
+        ..Call::of(what)
     };
     let memory = Memory {
         old_key: random.bytes(48),
         new_key: random.bytes(64),
+        xts_key: random.bytes(32),
         data: vec![],
         store,
         text: random.bytes(20),
+        block: [0; 16],
         place: 3,
         words: [(); 6].map(|()| random.word() as u32),
     };
@@ -89,6 +107,9 @@ fn spoil(call: &mut Call, memory: &mut Memory, number: u32, way: usize) {
             store.resize(length, 0);
         }
         5 => call.sheet = 0,
+        6 if call.what == What::AddXts => {
+            memory.text.resize([2_097, 4_096, 65_535, 65_536][way], 7);
+        }
         6 => memory.text.resize([15, 2_097, 0, 65_552][way], 7),
         7 => {
             for (number, slot) in (OTHERS..).zip(0..store.len() / RECORD) {
@@ -110,14 +131,16 @@ fn spoil(call: &mut Call, memory: &mut Memory, number: u32, way: usize) {
             store[SLOT * RECORD + at] = byte;
         }
         13 => memory.text.truncate([19, 0, 1, 16][way]),
+        15 => memory.xts_key.resize([31, 48, 0, 65][way], 7),
+        16 => memory.text.resize([15, 65_537, 0, 65_552][way], 7),
         _ => unreachable!("no call is refused with {number}"),
     }
 }
 
 /// Every set of a call's faults, each in several ways. Returns how often each
 /// number was answered.
-fn every_set(what: What, order: &[u32]) -> [usize; 15] {
-    let mut answered = [0; 15];
+fn every_set(what: What, order: &[u32]) -> [usize; 18] {
+    let mut answered = [0; 18];
     for set in 0..1_usize << order.len() {
         for way in 0..WAYS {
             let seed = SEED + (set * WAYS + way) as u64;
@@ -144,21 +167,24 @@ fn every_set(what: What, order: &[u32]) -> [usize; 15] {
 /// with or without each of those behind it.
 #[test]
 fn order() {
-    for &(what, order) in ORDER {
-        let mut wanted = [0; 15];
+    let mut tried = 0;
+    for (what, order) in orders() {
+        tried += 1;
+        let mut wanted = [0; 18];
         wanted[0] = WAYS;
         for (n, number) in order.iter().enumerate() {
             wanted[*number as usize] = WAYS << (order.len() - 1 - n);
         }
         assert_eq!(every_set(what, order), wanted, "{what:?}");
     }
+    assert_eq!(tried, WHATS.len());
 }
 
 /// A key of every length but the two, in the place of either.
 #[test]
 fn keys() {
-    for &(what, order) in ORDER {
-        if order[0] != 1 {
+    for (what, order) in orders() {
+        if !order.contains(&1) {
             continue;
         }
         let mut refused = 0;
@@ -209,14 +235,18 @@ fn texts() {
             .chain([4_096, 65_535, 65_536, 65_552])
             .chain([(1 << 20) + 16, (1 << 24) + 2_096])
     };
-    for what in [What::Add, What::Revise] {
+    for what in [What::Add, What::Revise, What::AddXts] {
         for length in lengths() {
             let mut random = Random::new(SEED + length as u64);
             let (call, mut memory) = good(what, &mut random);
             memory.text = random.bytes(length);
             let name = || format!("text of {length} bytes");
             let (number, _) = agree(&call, &memory, length, &name);
-            let wanted = if (16..=2_096).contains(&length) { 0 } else { 6 };
+            let wanted = match length {
+                16..=2_096 => 0,
+                ..16 | 65_537.. if what == What::AddXts => 16,
+                _ => 6,
+            };
             assert_eq!(number, wanted, "{what:?}, {}", name());
         }
     }
@@ -412,7 +442,10 @@ fn names() {
         Refusal::SlotUnsound,
         Refusal::BufferLength,
         Refusal::LengthChanged,
+        Refusal::XtsKeyLength,
+        Refusal::UnitLength,
+        Refusal::BlockNotAlone,
     ];
-    assert!(names.map(Refusal::number).into_iter().eq(4..=14));
+    assert!(names.map(Refusal::number).into_iter().eq(4..=17));
     assert_eq!(lagunedo::FAULT, FAULT);
 }

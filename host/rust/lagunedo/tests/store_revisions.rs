@@ -3,9 +3,10 @@
 
 mod ways;
 
-use second::record::{written, Lead, CLEAR, NEW, OLD};
+use calls::FAULT;
+use second::record::{written, Lead, CLEAR, NEW, OLD, RECORD};
 use second::{listing, Keys};
-use ways::{agree, Call, Memory, What, FAULT, RECORD};
+use ways::{agree, Call, Memory, What};
 
 const SHEET: u32 = 305;
 const STORED: &[u8] = b"PRESS 2 BLUE, DRY 20 MIN";
@@ -50,9 +51,9 @@ fn keys(memory: &Memory) -> Keys<'_> {
 /// A call on the sheet: what every way returns and leaves.
 fn made(what: What, seen: u32, before: &Memory) -> (u32, Memory) {
     let call = Call {
-        what,
         sheet: SHEET,
         seen,
+        ..Call::of(what)
     };
     let revision = Lead::of(&before.store).revision;
     agree(&call, before, 0, &|| format!("at revision {revision}"))

@@ -5,14 +5,12 @@
 //! beginning in P and C exchanged. So both are `wide`, which has Table 1's
 //! names; only the number of blocks, there m beside a mask M, is `count`.
 
+use crate::block::{block, double, xor, Block};
 use crate::cipher::{cipher, inv_cipher};
 use crate::schedule::key_expansion;
 use crate::slip::Slip;
 use crate::{DATA_LENGTH, KEY_LENGTH, MESSAGE_LENGTH};
-use std::array::from_fn;
 use std::ops::RangeInclusive;
-
-type Block = [u8; 16];
 
 /// 01: how many bytes a message has.
 pub const MESSAGE: RangeInclusive<usize> = 16..=65_536;
@@ -234,19 +232,6 @@ pub fn new_masks(length: usize) -> Vec<usize> {
     (2..=length / 16).filter(|i| begins_mask(*i)).collect()
 }
 
-/// Mult-by-alpha, section 5.1. EME-32-AES has the same.
-#[must_use]
-pub fn double(x: [u8; 16]) -> [u8; 16] {
-    let mut y = from_fn(|i| {
-        let carry = i > 0 && x[i - 1] > 127;
-        x[i].wrapping_mul(2) + u8::from(carry)
-    });
-    if x[15] > 127 {
-        y[0] ^= 0x87;
-    }
-    y
-}
-
 /// 01, padding: one byte 80 hex, then zeros, up to 16.
 fn pad(short: &[u8]) -> Block {
     let mut padded = [0; 16];
@@ -258,14 +243,6 @@ fn pad(short: &[u8]) -> Block {
 /// Blocks of 16 bytes, the last of 1 to 16; none if there are no bytes.
 fn split(bytes: &[u8]) -> Vec<&[u8]> {
     bytes.chunks(16).collect()
-}
-
-fn block(bytes: &[u8]) -> Block {
-    bytes.try_into().expect("16 bytes")
-}
-
-fn xor(a: Block, b: Block) -> Block {
-    from_fn(|i| a[i] ^ b[i])
 }
 
 /// The xor of one block and of all that follow.

@@ -1,6 +1,6 @@
-//! 01, "Numbers returned in place of a result", under the names of
-//! `lagunedo.h`. Number 14 is never returned: deciphering keeps the length of a
-//! text.
+//! 01, "Numbers returned in place of a result", and those of 02, under the names
+//! of `lagunedo.h`. Number 14 is never returned: deciphering keeps the length of
+//! a text.
 
 /// 01: a key given is not 48 or 64 bytes (AES alone: 16 or 32).
 pub const KEY_LENGTH: u32 = 1;
@@ -29,3 +29,9 @@ pub const SHEET_PRESENT: u32 = 11;
 pub const SLOT_UNSOUND: u32 = 12;
 /// 01: the lent buffer is shorter than the text.
 pub const BUFFER_LENGTH: u32 = 13;
+/// 02, order 3: the XTS key is not 32 or 64 bytes.
+pub const XTS_KEY_LENGTH: u32 = 15;
+/// 02, order 3: the unit is below 16 or above 65,536 bytes.
+pub const UNIT_LENGTH: u32 = 16;
+/// 02, order 3: the block can't be read alone.
+pub const BLOCK_NOT_ALONE: u32 = 17;

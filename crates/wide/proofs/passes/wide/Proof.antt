@@ -8,9 +8,10 @@ use borrow.Author.Needs.{needs}
 use lib.ListN.{length}
 use Rattle.block.specs.Blocks.{onBlocks}
 use Rattle.block.proofs.ArrayBytes.{array-block}
+use Rattle.field.specs.Masks.{masked}
 use Rattle.aes.specs.Aes.{crypted}
 use Rattle.aes.specs.Promise.{length-crypted}
-use Rattle.wide.specs.Passes.{masked, mixed}
+use Rattle.wide.specs.Passes.{mixed}
 use Rattle.wide.proofs.WideLaws.{wide-passes}
 use Rattle.wide.proofs.passes.wide.Statement.{statement}
 use Rattle.wide.proofs.passes.wide.Tie as tie
@@ -58,9 +59,9 @@ returns c =
     let pass : List ℕ → List ℕ = onBlocks (map f) in
     let masks : List ℕ → List ℕ = onBlocks (masked (a .l)) in
     let h : 16 ≤ length s = p .pre .2 in
-    m2 .mask2 .ensures
+    m2 .mask2 .ensures .1
     ∙ ap masks
-    (c2 .crypt-blocks2 .ensures ∙ ap pass (mx .mix .ensures ∙ ap (mixed f (a .t)) (cb .crypt-blocks .ensures ∙ ap pass (mk .mask .ensures))))
+    (c2 .crypt-blocks2 .ensures ∙ ap pass (mx .mix .ensures ∙ ap (mixed f (a .t)) (cb .crypt-blocks .ensures ∙ ap pass (mk .mask .ensures .1))))
     ∙ wide-passes f (length-crypted (a .back) (a .keys) (a .nr)) (a .l) (a .t) s (array-block (a .l) _ (p .good .1 .1 .1 .0) .size) h
 
 pub wide-spec : {M : Type 1} → statement M

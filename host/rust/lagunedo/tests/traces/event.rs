@@ -13,6 +13,15 @@ pub enum Event {
         sheet: u32,
         text: Vec<u8>,
     },
+    /// A sheet taken over: the unit that was made of a text, if its key and its
+    /// length are such that one is made.
+    Convert {
+        sheet: u32,
+        key: Vec<u8>,
+        number: u64,
+        unit: Vec<u8>,
+        text: Vec<u8>,
+    },
     Revise {
         sheet: u32,
         seen: u32,
@@ -35,6 +44,7 @@ impl Event {
         match self {
             Self::Read { .. } => "read",
             Self::Add { .. } => "add",
+            Self::Convert { .. } => "convert",
             Self::Revise { .. } => "revise",
             Self::Remove { .. } => "remove",
             Self::Step { .. } => "step",
@@ -49,6 +59,12 @@ impl fmt::Display for Event {
                 write!(f, "read sheet {sheet} into {} bytes", buffer.len())
             }
             Self::Add { sheet, text } => write!(f, "add sheet {sheet} of {} bytes", text.len()),
+            Self::Convert {
+                sheet, key, unit, ..
+            } => {
+                let [key, unit] = [key, unit].map(Vec::len);
+                write!(f, "convert {unit} bytes to sheet {sheet}, key of {key}")
+            }
             Self::Revise { sheet, seen, text } => {
                 let length = text.len();
                 write!(f, "revise sheet {sheet}, seen at {seen}, to {length} bytes")

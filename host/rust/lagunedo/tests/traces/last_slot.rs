@@ -83,7 +83,7 @@ impl LastSlot {
     /// changed some.
     pub fn mixed(&self) -> bool {
         let converting = self.copies.iter().filter(|copy| copy.converted);
-        self.reached() && converting.count() > 1 && self.meanwhile.len() == 3
+        self.reached() && converting.count() > 1 && self.meanwhile.len() == 4
     }
 
     fn begun_at_zero(&self) -> impl Iterator<Item = &JobCopy> {

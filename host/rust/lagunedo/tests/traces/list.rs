@@ -53,6 +53,18 @@ impl List {
         Ok(self.put(place, number, 1, text))
     }
 
+    /// 02, order 3: an add of what the unit deciphers to, if the lengths of its
+    /// key and of the unit are taken.
+    pub fn convert(&mut self, key: &[u8], unit: &[u8], number: u32, text: &[u8]) -> Answer {
+        if key.len() != 32 && key.len() != 64 {
+            return Err(Refusal::XtsKeyLength);
+        }
+        if !(16..=65_536).contains(&unit.len()) {
+            return Err(Refusal::UnitLength);
+        }
+        self.add(number, text)
+    }
+
     pub fn revise(&mut self, number: u32, seen: u32, text: &[u8]) -> Answer {
         asked(number)?;
         fits(text)?;

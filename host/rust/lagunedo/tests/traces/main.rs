@@ -1,5 +1,6 @@
-//! Demand 3, run: random traces of whole calls, in any order, with several
-//! copies of the rekeying job interleaved, on a store that passes the check.
+//! Demand 3, run: random traces of whole calls, in any order, conversions of
+//! sheets under XTS-AES among them, with several copies of the rekeying job
+//! interleaved, on a store that passes the check.
 //! Beside the store there is the plain list of 01, kept by the test, and the
 //! store of the second implementation. After each call the answer is that of
 //! both and every byte is the second's; the texts decipher to the list; the

@@ -38,10 +38,11 @@ impl Script {
         if !self.past.is_empty() && self.random.one_in(4) {
             return self.retry();
         }
-        let event = match self.random.below(12) {
+        let event = match self.random.below(14) {
             0..=2 => return self.read(list),
             3..=5 => self.add(list),
             6..=9 => self.revise(list),
+            10..=11 => self.convert(list),
             _ => Event::Remove {
                 sheet: self.present(list),
             },
@@ -103,6 +104,31 @@ impl Script {
         let sheet = self.absent(list);
         let text = texts::given(&mut self.random);
         Event::Add { sheet, text }
+    }
+
+    /// Mostly the unit of a text; now and then under a key of a wrong length.
+    fn convert(&mut self, list: &List) -> Event {
+        let sheet = self.absent(list);
+        let text = texts::given(&mut self.random);
+        let length = match self.random.below(32) {
+            0 => self.random.pick(&[0, 16, 31, 33, 48, 63, 65]),
+            n if n % 2 == 1 => 32,
+            _ => 64,
+        };
+        let key = self.random.bytes(length);
+        let number = match self.random.below(4) {
+            0 => self.random.pick(&[0, 255, 1 << 32, u64::MAX]),
+            _ => self.random.word(),
+        };
+        let mut unit = text.clone();
+        second::xts(&key, false, number, &mut unit);
+        Event::Convert {
+            sheet,
+            key,
+            number,
+            unit,
+            text,
+        }
     }
 
     /// Mostly the stored revision is named.

@@ -6,10 +6,12 @@ use lagunedo::Refusal;
 use std::collections::BTreeMap;
 
 /// The answers that each call can give on a sound store under two good keys:
-/// 0 or 01's numbers, in its order, and for a step its outcomes but damaged.
-const ANSWERS: [(&str, &[u32]); 5] = [
+/// 0 or 01's numbers, in its order, and for a step its outcomes but damaged; of
+/// a conversion 02's numbers first.
+const ANSWERS: [(&str, &[u32]); 6] = [
     ("read", &[0, 5, 7, 13]),
     ("add", &[0, 5, 6, 11, 10]),
+    ("convert", &[0, 15, 16, 5, 6, 11, 10]),
     ("revise", &[0, 5, 6, 7, 8, 9]),
     ("remove", &[0, 5, 7]),
     ("step", &[0, 1, 3, 4]),

@@ -7,7 +7,7 @@ use crate::list::List;
 use crate::one_of_two::OneOfTwo;
 use crate::start::{Keys, Start};
 use crate::tally::Answers;
-use lagunedo::{add, job_step, read, remove, revise, step, Found, Job, Outcome, Refusal};
+use lagunedo::{add, add_xts, job_step, read, remove, revise, step, Found, Job, Outcome, Refusal};
 use second::record::RECORD;
 
 pub struct Trace {
@@ -55,6 +55,18 @@ impl Trace {
                 let by_list = self.list.add(*sheet, text);
                 self.changed(event, answer, by_second, by_list)
             }
+            Event::Convert {
+                sheet,
+                key,
+                number,
+                unit,
+                text,
+            } => {
+                let answer = add_xts(key, *number, unit, keys.old, keys.new, store, *sheet);
+                let by_second = second::add_xts(key, *number, unit, keys, wanted, *sheet);
+                let by_list = self.list.convert(key, unit, *sheet, text);
+                self.changed(event, answer, by_second, by_list)
+            }
             Event::Revise { sheet, seen, text } => {
                 let answer = revise(keys.old, keys.new, store, *sheet, *seen, text);
                 let by_second = second::revise(keys, wanted, *sheet, *seen, text);
@@ -90,7 +102,7 @@ impl Trace {
         answer
     }
 
-    /// After an add, a revision or a removal: 0, or why it was refused.
+    /// After an add, a conversion, a revision or a removal: 0, or why it was refused.
     fn changed(
         &mut self,
         event: &Event,

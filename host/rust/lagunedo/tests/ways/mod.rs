@@ -1,12 +1,11 @@
-//! One call of the store made in every way: as C makes it, by the safe
+//! One call of the store, or of XTS, made in every way: as C makes it, by the safe
 //! functions, and by the second implementation. All have to return the same
 //! and to leave the same in all memory that is lent.
 
 mod raw;
 
 use calls::{by_safe, by_second};
-pub use calls::{Call, Memory, What, FAULT};
-pub use second::record::RECORD;
+pub use calls::{Call, Memory, What};
 
 /// A way of making a call: what it returns, and the memory after it. The
 /// number moves the addresses of what is lent.

@@ -12,8 +12,10 @@ const WORD_GUARD: u32 = 0xa5a5_a5a5;
 pub fn call(call: &Call, before: &Memory, shift: usize) -> (u32, Memory) {
     let old_key = Lent::new(&before.old_key, shift % 16);
     let new_key = Lent::new(&before.new_key, (3 * shift) % 16);
+    let xts_key = Lent::new(&before.xts_key, (7 * shift) % 16);
     let mut store = Lent::new(&before.store, (shift / 16) % 16);
     let mut text = Lent::new(&before.text, (5 * shift) % 16);
+    let mut block = Lent::new(&before.block, (11 * shift) % 16);
     let mut place = [PLACE_GUARD, before.place, PLACE_GUARD];
     let mut words = [WORD_GUARD; 8];
     words[1..7].copy_from_slice(&before.words);
@@ -23,9 +25,11 @@ pub fn call(call: &Call, before: &Memory, shift: usize) -> (u32, Memory) {
         calls::Lent {
             old_key: old_key.bytes(),
             new_key: new_key.bytes(),
+            xts_key: xts_key.bytes(),
             data: &[],
             store: store.bytes_mut(),
             text: text.bytes_mut(),
+            block: block.bytes_mut().try_into().expect("16 bytes"),
             place: &mut place[1],
             words: lent,
         },
@@ -37,9 +41,11 @@ pub fn call(call: &Call, before: &Memory, shift: usize) -> (u32, Memory) {
     let after = Memory {
         old_key: old_key.after(),
         new_key: new_key.after(),
+        xts_key: xts_key.after(),
         data: vec![],
         store: store.after(),
         text: text.after(),
+        block: block.after().try_into().expect("16 bytes"),
         place,
         words,
     };

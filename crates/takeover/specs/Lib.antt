@@ -1,0 +1,2 @@
+-- What each conversion comes to.
+pub mod Sources
