@@ -21,10 +21,11 @@ host-archive: $(HOST_OUT)/eme2 lesson-program
 	install -m 755 $(HOST_OUT)/eme2 $(DIST_TREE)/bin/lagunedo-eme2
 	install -m 755 $(HOST_OUT)/lesson $(DIST_TREE)/bin/lagunedo-lesson
 	install -m 644 $(HOST_MAN)/lagunedo-eme2.1 $(HOST_MAN)/lagunedo-lesson.1 $(DIST_TREE)/share/man/man1
-	install -d $(DIST_TREE)/lessons $(DIST_DOC)/docs
+	install -d $(DIST_TREE)/lessons $(DIST_DOC)/docs/changes
 	for program in $(DIST_PROGRAMS); do ln -s ../bin/lagunedo-$$program $(DIST_TREE)/lessons/$$program || exit 1; done
 	install -m 644 README.md host/c/example.c $(DIST_DOC)
 	install -m 644 docs/*.md docs/*.svg $(DIST_DOC)/docs
+	install -m 644 docs/changes/*.md $(DIST_DOC)/docs/changes
 	sed -e 's/@VERSION@/$(LAGUNEDO_VERSION)/' -e "s/@GLIBC_LIBRARY@/$$(objdump -p $(DIST_TREE)/lib/liblagunedo.so | $(NEWEST_GLIBC))/" \
 	    -e "s/@GLIBC_PROGRAMS@/$$(objdump -p $(DIST_TREE)/bin/* | $(NEWEST_GLIBC))/" host/dist.txt >$(DIST_TREE)/README.txt
 	tar -C $(DIST_OUT) --sort=name --owner=0 --group=0 --numeric-owner -czf $(DIST_ARCHIVE) $(DIST_NAME)

@@ -31,7 +31,8 @@ for file in README.txt include/lagunedo.h include/lagunedo_file.h lib/liblaguned
     bin/lagunedo-desk bin/lagunedo-listing bin/lagunedo-eme2 bin/lagunedo-lesson \
     share/man/man1/lagunedo-desk.1 share/man/man1/lagunedo-listing.1 share/man/man1/lagunedo-eme2.1 share/man/man1/lagunedo-lesson.1 \
     share/man/man3/lagunedo.3 \
-    share/doc/lagunedo/README.md share/doc/lagunedo/example.c share/doc/lagunedo/docs/LESSONS.md; do
+    share/doc/lagunedo/README.md share/doc/lagunedo/example.c share/doc/lagunedo/docs/LESSONS.md \
+    share/doc/lagunedo/docs/changes/01-revisions-past-65535.md; do
     check "$file is there" [ -f "$top/$file" ]
 done
 check "every link leads somewhere" [ -z "$(find "$top" -type l ! -exec test -e {} \; -print)" ]
