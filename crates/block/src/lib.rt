@@ -3,6 +3,8 @@
 // A block goes by value, as [u8; 16]. Contracts of the layers above cite `specs/`: `◌⊕◌` (Xor), `double`, `doubles` and `pad` (Double), `block_at`,
 // `with_block` and `on_blocks` (Blocks), `tab` for a list given by its places (Tab), rows of any width (Rows), little-endian numbers
 // (LittleEndian), `Bytes` and `Block` (Bytes). `proofs/Lib.antt` lists the laws about them.
+#![tactic(auto)]
+
 ghost use Rattle.std.specs.Prelude.{◌≡◌, ◌+◌, ◌<◌, ◌≤◌, ◌++◌, length, take, drop};
 ghost use Rattle.block.specs.Xor.{◌⊕◌};
 ghost use Rattle.block.specs.Blocks.{block_at, with_block};
