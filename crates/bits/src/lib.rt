@@ -2,6 +2,8 @@
 // for 32 bytes at once, with no branch and no place that depends on them.
 //
 // Contracts cite `specs/`: `byte_at` (Planes) for one of the 32 bytes, `Spread` for what a group of four planes has of a slice's bytes.
+#![tactic(auto)]
+
 ghost use Rattle.std.specs.Prelude.{◌≡◌, ◌+◌, ◌*◌, ◌≤◌, ◌<◌, length};
 ghost use Rattle.block.specs.Tab.{byte};
 ghost use Rattle.bits.specs.Planes.{words, planes_of, with_planes};

@@ -1,0 +1,14 @@
+-- `bits::turn::flip_all` meets its contract: after t turns the planes below t are turned, and the others as they came.
+-- Assumes nothing.
+use mathlib.Core.Path.{◌≡◌}
+use Prim.Native.Nat.{ℕ, ◌-◌, ◌≤◌, ◌<◌}
+use lib.ListN.{length}
+use Rattle.bits.specs.Planes.{planes_of, Flipped}
+use Rattle.bits.proofs.turn.flip_all.Given as goal
+
+abbrev pub invariant-loop-t : goal.invariant-loop-t
+invariant-loop-t l = (l.t ≤ 4) × (length l.group ≡ 32) × ((u : ℕ) → u < l.t → Flipped (planes_of l.initial.group u) (planes_of l.group u))
+    × ((u : ℕ) → l.t ≤ u → u < 4 → planes_of l.group u ≡ planes_of l.initial.group u)
+
+abbrev pub decreases-loop-t : goal.decreases-loop-t
+decreases-loop-t l = 4 - l.t
