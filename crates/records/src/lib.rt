@@ -2,6 +2,8 @@
 //
 // Contracts cite `specs/Record.antt`, the one place that knows where a field stands. The fields stand in the first 16 bytes, the lead, so that they
 // can be read of a lead alone. Nothing here knows a key: the text that a record holds is a room above.
+#![tactic(auto)]
+
 // The fields of a record, and whether it is sound.
 mod fields;
 // A record written whole.
