@@ -1,4 +1,3 @@
--- The elements of the field, with examples, and the masks of a text's blocks.
+-- The elements of the field, and the masks of a text's blocks.
 pub mod Elements
-pub mod Examples
 pub mod Masks
