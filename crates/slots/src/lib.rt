@@ -2,6 +2,8 @@
 // is done with a key to the sheet in a slot is a room above.
 //
 // Contracts cite `specs/Slots.antt`.
+#![tactic(auto)]
+
 ghost use Rattle.std.specs.Prelude.{◌≡◌, ◌<◌, length};
 ghost use Rattle.records.specs.Record.{record_size, num};
 ghost use Rattle.slots.specs.Slots.{slots, slot, put, emptied, find, bad_size};
