@@ -1,7 +1,7 @@
--- 01, numbers returned in place of a result, and those of 02: the number of each refusal, and that no two refusals share one.
+-- 01, numbers returned in place of a result, and those of 02: the number of each refusal. That no two refusals share one is in proofs/NumberLaws.
 -- Assumes nothing.
-use Rattle.std.specs.Prelude.{◌≡◌, refl, List, [], ◌∷◌, ℕ, zero, suc, ◌≤◌, get_or}
-use Rattle.std.proofs.Common.{sym, ap, ◌∙◌, arith}
+use Rattle.std.specs.Prelude.{ℕ, ◌≤◌}
+use Rattle.std.proofs.Common.{arith}
 use Rattle.numbers.specs.declared.Refusal.{Refusal}
 use Rattle.numbers.specs.declared.Refusal.TheVariants.{KeyLength, MessageLength, DataLength, StoreLength, SheetZero, TextLength, NoSheet}
 use Rattle.numbers.specs.declared.Refusal.TheVariants.{OtherRevision, LastRevision, NoFreeSlot, SheetPresent, SlotUnsound, BufferLength, LengthChanged}
@@ -33,57 +33,6 @@ paper BlockNotAlone = 17
 abbrev pub answer_paper : Answer → ℕ
 answer_paper Done = 0
 answer_paper (Refused x) = paper x
-
--- every refusal, by its number less 1
-refusals : List Refusal
-refusals =
-    KeyLength
-    ∷ MessageLength
-    ∷ DataLength
-    ∷ StoreLength
-    ∷ SheetZero
-    ∷ TextLength
-    ∷ NoSheet
-    ∷ OtherRevision
-    ∷ LastRevision
-    ∷ NoFreeSlot
-    ∷ SheetPresent
-    ∷ SlotUnsound
-    ∷ BufferLength
-    ∷ LengthChanged
-    ∷ XtsKeyLength
-    ∷ UnitLength
-    ∷ BlockNotAlone
-    ∷ []
-
-abbrev answer_of : ℕ → Answer
-answer_of zero = Done
-answer_of (suc n) = Refused (get_or refusals n LengthChanged)
-
-back : (a : Answer) → answer_of (answer_paper a) ≡ a
-unfolding refusals
-back Done = refl
-back (Refused KeyLength) = refl
-back (Refused MessageLength) = refl
-back (Refused DataLength) = refl
-back (Refused StoreLength) = refl
-back (Refused SheetZero) = refl
-back (Refused TextLength) = refl
-back (Refused NoSheet) = refl
-back (Refused OtherRevision) = refl
-back (Refused LastRevision) = refl
-back (Refused NoFreeSlot) = refl
-back (Refused SheetPresent) = refl
-back (Refused SlotUnsound) = refl
-back (Refused BufferLength) = refl
-back (Refused LengthChanged) = refl
-back (Refused XtsKeyLength) = refl
-back (Refused UnitLength) = refl
-back (Refused BlockNotAlone) = refl
-
--- two answers with one number are equal
-pub paper_apart : (a b : Answer) → answer_paper a ≡ answer_paper b → a ≡ b
-paper_apart a b e = sym (back a) ∙ ap answer_of e ∙ back b
 
 -- no refusal has the number of a call that was not refused
 pub some_number : (x : Refusal) → 1 ≤ paper x

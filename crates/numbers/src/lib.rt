@@ -2,6 +2,8 @@
 //
 // Every call of AES, EME2, XTS and the store refuses with a `Refusal`; a call that gives nothing else answers an `Answer`. Contracts cite
 // `specs/Numbers.antt`: the number that the paper gives to each.
+#![tactic(auto)]
+
 ghost use Rattle.std.specs.Prelude.{◌≡◌};
 ghost use Rattle.numbers.specs.Numbers.{paper, answer_paper};
 
