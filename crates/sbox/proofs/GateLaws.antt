@@ -1,4 +1,4 @@
--- Gates between planes are those gates for every byte of the planes: what the tests of `GateRule` say of one byte, lifted to all.
+-- Gates between planes are those gates for every byte of the planes: what the tests of `GateRuleLaws` say of one byte, lifted to all.
 -- Assumes nothing.
 use mathlib.Core.Path.{◌≡◌, refl, sym, ap, ap₂, ◌∙◌}
 use mathlib.Core.List.{List, [], ◌∷◌, ◌++◌, map}
@@ -12,12 +12,14 @@ use Rattle.block.proofs.Table.{agree}
 use Rattle.bits.specs.Planes.{bit, byte_at, Each}
 use Rattle.bits.proofs.BitLaws.{bit_zero, bit_lt, bit_xor_lem, bit_and_lem}
 use Rattle.sbox.specs.Field.{inverse}
-use Rattle.sbox.specs.Rule.{of_bits, affine, sub_rule}
+use Rattle.sbox.specs.Rule.{of_bits, affine}
+use Rattle.sbox.proofs.RuleLaws.{sub_rule}
 use Rattle.sbox.specs.Sub.{sub, inv_sub}
 use Rattle.sbox.specs.Gates.{Gate, xor, and, gate, run, picks, stage, ones}
 use Rattle.sbox.specs.InverseGates.{top_gates, top_outs, norm_gates, norm_outs, low_gates, low_outs, product_gates, product_outs, bottom_gates, bottom_outs}
 use Rattle.sbox.specs.AffineGates.{affine_gates, affine_outs, unaffine_gates, unaffine_outs}
-use Rattle.sbox.specs.GateRule.{bits_of, from_sums, inverted, inverse_gates, affine_gates_lem, unaffine_gates_lem}
+use Rattle.sbox.specs.GateRule.{bits_of, from_sums, inverted}
+use Rattle.sbox.proofs.GateRuleLaws.{inverse_gates, affine_gates_lem, unaffine_gates_lem}
 
 module _ (k : ℕ) where
   -- bit k of every word

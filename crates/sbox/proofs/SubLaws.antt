@@ -7,7 +7,8 @@ use Rattle.block.specs.Tab.{byte}
 use Rattle.block.specs.Bytes.{Bytes, Block}
 use Rattle.block.proofs.TabLaws.{tab_ext, tab_eta, bytes-tab, block_tab}
 use Rattle.sbox.specs.Sub.{sub, inv_sub, sub_bytes, inv_sub_bytes, sub_word}
-use Rattle.sbox.specs.Rule.{sub_byte, inv_sub-byte, inv_sub-sub, sub-inv_sub}
+use Rattle.sbox.specs.Rule.{sub_byte, inv_sub-byte}
+use Rattle.sbox.proofs.RuleLaws.{inv_sub-sub, sub-inv_sub}
 
 pub block_sub_bytes : {s : List ℕ} → Block s → Block (sub_bytes s)
 unfolding sub_bytes

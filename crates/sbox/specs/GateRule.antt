@@ -1,13 +1,9 @@
--- What the gates work out, tested for every byte: the inverse in the field, the affine step, and the step undone.
+-- What the gates are tested with: the bits of a byte, and the five parts of the inverse one after the other. What they work out, tested for every
+-- byte, is in proofs/GateRuleLaws.
 -- Assumes nothing.
-use Rattle.std.specs.Prelude.{◌≡◌, List, [], ◌∷◌, ◌++◌, ℕ, zero, suc, ◌/◌, ◌%◌, ◌<◌}
-use Rattle.block.proofs.Table.{agree}
-use Rattle.sbox.specs.Field.{inverse}
-use Rattle.sbox.specs.Rule.{of_bits, affine}
-use Rattle.sbox.specs.Sub.{inv_sub}
+use Rattle.std.specs.Prelude.{List, [], ◌∷◌, ◌++◌, ℕ, zero, suc, ◌/◌, ◌%◌}
 use Rattle.sbox.specs.Gates.{stage}
 use Rattle.sbox.specs.InverseGates.{top_gates, top_outs, norm_gates, norm_outs, low_gates, low_outs, product_gates, product_outs, bottom_gates, bottom_outs}
-use Rattle.sbox.specs.AffineGates.{affine_gates, affine_outs, unaffine_gates, unaffine_outs}
 
 -- the first n bits of a number, the lowest first
 abbrev pub bits_of : ℕ → ℕ → List ℕ
@@ -20,15 +16,3 @@ from_sums s = stage bottom_gates bottom_outs (stage product_gates product_outs (
 
 unfoldable pub inverted : List ℕ → List ℕ
 inverted b = from_sums (stage top_gates top_outs b)
-
-pub inverse_gates : (x : ℕ) → x < 256 → of_bits (inverted (bits_of 8 x)) ≡ inverse x
-unfolding inverted stage inverse
-inverse_gates = agree (λ x. of_bits (inverted (bits_of 8 x))) (λ x. inverse x) 256 tt
-
-pub affine_gates_lem : (x : ℕ) → x < 256 → of_bits (stage affine_gates affine_outs (1 ∷ bits_of 8 x)) ≡ affine x
-unfolding stage affine
-affine_gates_lem = agree (λ x. of_bits (stage affine_gates affine_outs (1 ∷ bits_of 8 x))) (λ x. affine x) 256 tt
-
-pub unaffine_gates_lem : (x : ℕ) → x < 256 → inverse (of_bits (stage unaffine_gates unaffine_outs (1 ∷ bits_of 8 x))) ≡ inv_sub x
-unfolding stage inverse inv_sub
-unaffine_gates_lem = agree (λ x. inverse (of_bits (stage unaffine_gates unaffine_outs (1 ∷ bits_of 8 x)))) (λ x. inv_sub x) 256 tt

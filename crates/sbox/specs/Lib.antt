@@ -1,9 +1,8 @@
--- FIPS 197, 4 and 5.1.1: the byte field, the substitution and its tables, and what is proved of them.
+-- FIPS 197, 4 and 5.1.1: the byte field, the substitution and its tables, and the gates. What is proved of them is in proofs/.
 pub mod Field
 pub mod Tables
 pub mod Sub
 pub mod Rule
-pub mod Examples
 pub mod Gates
 pub mod InverseGates
 pub mod AffineGates

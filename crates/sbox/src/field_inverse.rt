@@ -14,7 +14,7 @@ ghost use Rattle.sbox.specs.InverseGates.{product_gates, product_outs, bottom_ga
 use bits::BitPlanes;
 
 // Sums of a byte's bits, and bit 0 itself: what the field of 16 elements, over which the inverse is worked out, wants of the byte.
-#[derive(Drop)]
+#[derive(Clone, Copy)]
 pub struct Sums {
     pub x0: u32,
     pub y1: u32,
@@ -41,7 +41,7 @@ pub struct Sums {
 }
 
 // The norm: an element of the field of 16.
-#[derive(Drop)]
+#[derive(Clone, Copy)]
 pub struct LowNorm {
     pub t21: u32,
     pub t22: u32,
@@ -50,7 +50,7 @@ pub struct LowNorm {
 }
 
 // The norm's inverse there, and sums of its bits.
-#[derive(Drop)]
+#[derive(Clone, Copy)]
 pub struct LowInverse {
     pub t29: u32,
     pub t33: u32,
@@ -64,7 +64,7 @@ pub struct LowInverse {
 }
 
 // Its products with the byte's sums.
-#[derive(Drop)]
+#[derive(Clone, Copy)]
 pub struct Factors {
     pub z0: u32,
     pub z1: u32,

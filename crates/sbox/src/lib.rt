@@ -3,6 +3,8 @@
 // Contracts cite `specs/`: `sub_bytes` and `inv_sub_bytes` of a state, `sub_word` of a word. The substitution is defined by its tables there;
 // that they follow the rule and undo each other is proved there, once over the whole tables. The code reads no table: bytes are turned
 // into planes of bits (`bits`), and the inverse in the field and the affine step are gates between planes.
+#![tactic(auto)]
+
 ghost use Rattle.std.specs.Prelude.{◌≡◌, map, ◌++◌, ◌≤◌, length, take, drop};
 ghost use Rattle.block.specs.Tab.{tab, byte};
 ghost use Rattle.sbox.specs.Sub.{sub, inv_sub, sub_bytes, inv_sub_bytes, sub_word};

@@ -1,0 +1,9 @@
+-- `sbox::sub_bytes` meets its contract: the direction is the one that it asks for.
+-- Assumes nothing.
+use Rattle.sbox.specs.Sub.{sub_bytes}
+use Rattle.sbox.specs.Directions.{directed}
+use Rattle.sbox.proofs.sub_bytes.Goals as goal
+
+pub returns : goal.returns
+unfolding directed sub_bytes
+returns c = c.block_substituted.ensures
