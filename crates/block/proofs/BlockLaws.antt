@@ -1,6 +1,8 @@
 -- Laws of filled lists, and of a list's blocks of 16.
 -- Assumes nothing.
-use Rattle.std.proofs.Common.{◌≡◌, ℕ, zero, suc, ◌+◌, ◌-◌, ◌*◌, ◌/◌, ◌<◌, ◌≤◌, List, [], ◌∷◌, ◌++◌, map, length, get_or, take, drop, set, sym, refl, ap, ◌∙◌, ap₂, append_assoc, append-nil, le_of_lt, add-one, arith, length-append, length-drop, take-append-drop, drop_of_length-le, length-take-le, take_all, drop-cons, take-suc, drop-drop, take_at, drop_at}
+use Rattle.std.proofs.Common.{◌≡◌, ℕ, zero, suc, ◌+◌, ◌-◌, ◌*◌, ◌/◌, ◌<◌, ◌≤◌, List, [], ◌∷◌, ◌++◌, map, length, get_or, take, drop, set, sym, refl}
+use Rattle.std.proofs.Common.{ap, ◌∙◌, ap₂, append_assoc, append-nil, le_of_lt, add-one, arith, length-append, length-drop, take-append-drop}
+use Rattle.std.proofs.Common.{drop_of_length-le, length-take-le, take_all, drop-cons, take-suc, drop-drop, take_at, drop_at}
 use lib.Seq.{set_at, append_snoc, get_or_at}
 use Rattle.block.specs.Blocks.{block_at, with_block, full, rest, blocks, join, on_blocks}
 

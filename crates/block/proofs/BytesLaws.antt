@@ -1,6 +1,7 @@
 -- Lists of bytes, put together and taken apart.
 -- Assumes nothing.
-use Rattle.std.proofs.Common.{◌≡◌, ℕ, zero, suc, ◌+◌, ◌-◌, ◌<◌, ◌≤◌, List, [], ◌∷◌, ◌++◌, get_or, take, drop, replicate, sym, refl, ap, ◌∙◌, subst, arith, lit<, get_or-drop, drop_at}
+use Rattle.std.proofs.Common.{◌≡◌, ℕ, zero, suc, ◌+◌, ◌-◌, ◌<◌, ◌≤◌, List, [], ◌∷◌, ◌++◌, get_or, take, drop, replicate, sym, refl, ap, ◌∙◌, subst}
+use Rattle.std.proofs.Common.{arith, lit<, get_or-drop, drop_at}
 use lib.ListN.{length-replicate, replicate-append-replicate}
 use Rattle.block.specs.Bytes.{Bytes, Block}
 

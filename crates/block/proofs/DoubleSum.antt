@@ -1,6 +1,7 @@
 -- Twice a sum of blocks is the sum of their doubles.
 -- Assumes nothing.
-use Rattle.std.proofs.Common.{◌≡◌, ℕ, zero, suc, ◌+◌, ◌*◌, ◌/◌, ◌%◌, ◌<◌, Bool, true, false, cond, ltb, List, ◌∷◌, length, sym, refl, ap, ◌∙◌, ap₂, one-mul, zero-mul, arith, ltb-false, ltb-true}
+use Rattle.std.proofs.Common.{◌≡◌, ℕ, zero, suc, ◌+◌, ◌*◌, ◌/◌, ◌%◌, ◌<◌, Bool, true, false, cond, ltb, List, ◌∷◌, length, sym, refl, ap, ◌∙◌, ap₂}
+use Rattle.std.proofs.Common.{one-mul, zero-mul, arith, ltb-false, ltb-true}
 use lib.Bits.{bit_xor, xor_shr, xor_mod, xor_block}
 use Rattle.block.specs.Tab.{byte}
 use Rattle.block.specs.Bytes.{Block}

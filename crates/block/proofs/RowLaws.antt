@@ -1,6 +1,7 @@
 -- Laws of rows: a row that is put is found again, the other rows are kept, and so are lengths.
 -- Assumes nothing.
-use Rattle.std.proofs.Common.{◌≡◌, ℕ, ◌+◌, ◌-◌, ◌*◌, ◌≤◌, List, ◌++◌, length, take, drop, sym, ap, ◌∙◌, append_assoc, arith, length-append, length-drop, take-append-drop, length-take-le, drop-drop, take_at, drop_at}
+use Rattle.std.proofs.Common.{◌≡◌, ℕ, ◌+◌, ◌-◌, ◌*◌, ◌≤◌, List, ◌++◌, length, take, drop, sym, ap, ◌∙◌, append_assoc, arith, length-append}
+use Rattle.std.proofs.Common.{length-drop, take-append-drop, length-take-le, drop-drop, take_at, drop_at}
 use lib.Seq.{take-append-le, drop-append-le, drop-append-add}
 use Rattle.block.specs.Bytes.{Bytes}
 use Rattle.block.specs.Rows.{row, put_row}

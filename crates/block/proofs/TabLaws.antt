@@ -1,6 +1,7 @@
 -- Laws of lists given by their places, `tab n f`, and of lists of bytes.
 -- Assumes nothing.
-use Rattle.std.proofs.Common.{◌≡◌, ℕ, zero, suc, ◌<◌, List, [], ◌∷◌, map, length, get_or, refl, ap, ap₂, suc-le-suc, zero-le, le_of_suc-le-suc, not-suc-le-zero, arith, lit<}
+use Rattle.std.proofs.Common.{◌≡◌, ℕ, zero, suc, ◌<◌, List, [], ◌∷◌, map, length, get_or, refl, ap, ap₂, suc-le-suc, zero-le, le_of_suc-le-suc}
+use Rattle.std.proofs.Common.{not-suc-le-zero, arith, lit<}
 use native.Mathlib.Nat.{suc_inj}
 use Rattle.block.specs.Tab.{tab}
 use Rattle.block.specs.Bytes.{Bytes, Block}

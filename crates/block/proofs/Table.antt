@@ -1,7 +1,8 @@
 -- A fact about every number below n, from one test that the checker computes, one number after the other: how the rule of a
 -- table is proved once over the whole table, and any equation between two functions of one byte.
 -- Assumes nothing.
-use Rattle.std.proofs.Common.{◌≡◌, ℕ, zero, suc, ◌+◌, ◌<◌, Bool, true, false, ◌&&◌, T, eqb, sym, ◌∙◌, subst, le_of_suc-le-suc, not-suc-le-zero, add-zero, add-suc, suc-add, zero-add, eqb→eq}
+use Rattle.std.proofs.Common.{◌≡◌, ℕ, zero, suc, ◌+◌, ◌<◌, Bool, true, false, ◌&&◌, T, eqb, sym, ◌∙◌, subst, le_of_suc-le-suc, not-suc-le-zero}
+use Rattle.std.proofs.Common.{add-zero, add-suc, suc-add, zero-add, eqb→eq}
 
 and_left : (a b : Bool) → T (a && b) → T a
 and_left true b t = tt

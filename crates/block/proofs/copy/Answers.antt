@@ -1,6 +1,7 @@
 -- `block::copy` meets its contract: after i turns i bytes of the text stand in their place.
 -- Assumes nothing.
-use Rattle.std.proofs.Common.{◌≡◌, ℕ, ◌+◌, ◌≤◌, List, ◌++◌, length, get_or, take, drop, set, sym, refl, ap, ◌∙◌, append_assoc, le_of_eq, add-one, arith, take_all}
+use Rattle.std.proofs.Common.{◌≡◌, ℕ, ◌+◌, ◌≤◌, List, ◌++◌, length, get_or, take, drop, set, sym, refl, ap, ◌∙◌, append_assoc, le_of_eq, add-one}
+use Rattle.std.proofs.Common.{arith, take_all}
 use lib.Seq.{paste, paste-zero, paste-suc, length-paste}
 use Rattle.block.proofs.copy.Goals as goal
 use Rattle.block.proofs.copy.Goals.{At-loop-i}

@@ -1,6 +1,7 @@
 -- `block::padded` meets its contract: after i turns the first i bytes are those of the padded block.
 -- Assumes nothing.
-use Rattle.std.proofs.Common.{◌≡◌, ℕ, ◌+◌, ◌-◌, List, ◌++◌, length, get_or, take, drop, set, replicate, sym, refl, ap, ◌∙◌, ap₂, arith, length-drop, get_or-drop}
+use Rattle.std.proofs.Common.{◌≡◌, ℕ, ◌+◌, ◌-◌, List, ◌++◌, length, get_or, take, drop, set, replicate, sym, refl, ap, ◌∙◌, ap₂, arith, length-drop}
+use Rattle.std.proofs.Common.{get_or-drop}
 use Rattle.block.specs.Double.{pad}
 use Rattle.block.proofs.BlockLaws.{fill_turn}
 use Rattle.block.proofs.DoubleLaws.{length-pad}
