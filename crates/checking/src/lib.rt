@@ -1,6 +1,8 @@
 // Check, the call of 01 that looks at a whole store: the lowest faulty slot, or the five counts.
 //
 // Contracts cite `specs/Check.antt`.
+#![tactic(auto)]
+
 ghost use Rattle.std.specs.Prelude.{◌≡◌, ◌<◌};
 ghost use Rattle.slots.specs.Slots.{slots, slot};
 ghost use Rattle.checking.specs.Check.{faulty, first_fault, used, marked, counted, CheckCalled};
