@@ -1,4 +1,6 @@
 // Bytes for the programs that run the calls: patterns to fill what is lent with, and a number that tells messages and stores apart.
+#![tactic(auto)]
+
 ghost use Rattle.std.specs.Prelude.{true, false, ◌≡◌, ◌<◌};
 ghost use Rattle.patterns.specs.Pattern.{pattern_byte, Pattern};
 ghost use Rattle.patterns.specs.Digest.{digest_step, digest_from};
