@@ -7,10 +7,13 @@
 //     b               likewise the inverse substitution
 //
 // KEY and BLOCK are in hex, of at most 64 bytes, and may be empty; one blank stands before each.
-ghost use Rattle.std.specs.Prelude.{◌+◌, ◌≤◌, ◌<◌, length};
+#![tactic(auto)]
 
-use libc::{STDIN_FILENO, STDOUT_FILENO};
+ghost use Rattle.std.specs.Prelude.{◌+◌, ◌≤◌, ◌<◌, length, IfOk};
+
 use numbers::{Answer, Refusal, answer_number};
+use reading::read_full;
+use std::io;
 
 // How many bytes a run of hex digits gave, and where it ended.
 #[derive(Drop)]
@@ -19,23 +22,24 @@ struct Run {
     next: usize,
 }
 
-fn main() {
-    let mut text = io::large_buffer();
-    let n = io::read_full(STDIN_FILENO, &mut text);
-    lines(&text[..n]);
+fn main(rt: HostRuntime) -> io::Result<()> {
+    let mut text = [0u8; 65536];
+    let n = read_full(&mut rt.stdin(), &mut text);
+    lines(&rt, &text[..n])
 }
 
-fn lines(text: &[u8]) {
+fn lines(rt: &impl Print, text: &[u8]) -> io::Result<()> {
     let mut at = 0;
     while at < text.len() {
-        at = line(text, at);
+        at = line(rt, text, at)?;
     }
+    Ok(())
 }
 
 // Runs the line that starts at `at`, and answers where the next one starts.
-fn line(text: &[u8], at: usize) -> usize
+fn line(rt: &impl Print, text: &[u8], at: usize) -> io::Result<usize>
     requires { at < length text.now }
-    ensures { (at < result) × (result ≤ length text.now) }
+    ensures { IfOk result (λ next. (at < next) × (next ≤ length text.now)) }
 {
     let mut key = [0u8; 64];
     let mut block = [0u8; 64];
@@ -44,61 +48,56 @@ fn line(text: &[u8], at: usize) -> usize
     let key_len = k.len;
     let b = hex(text, k.next, &mut block);
     let block_len = b.len;
-    answer(kind, &key[..key_len], &mut block[..block_len]);
-    io::write_all(STDOUT_FILENO, b"\n");
-    past_line(text, b.next)
+    answer(rt, kind, &key[..key_len], &mut block[..block_len])?;
+    rt.write_all(b"\n")?;
+    Ok(past_line(text, b.next))
 }
 
 // Prints what the line's call answers.
-fn answer(kind: u8, key: &[u8], block: &mut [u8]) {
+fn answer(rt: &impl Print, kind: u8, key: &[u8], block: &mut [u8]) -> io::Result<()> {
     if kind == b's' {
-        set_up(key);
-        return;
+        return set_up(rt, key);
     }
     if kind == b'f' {
-        substitutions(false);
-        return;
+        return substitutions(rt, false);
     }
     if kind == b'b' {
-        substitutions(true);
-        return;
+        return substitutions(rt, true);
     }
     if kind == b'd' {
-        print_number(aes::decipher(key, block));
-        print_bytes(block);
-        return;
+        print_number(rt, aes::decipher(key, block))?;
+        return print_bytes(rt, block);
     }
-    print_number(aes::encipher(key, block));
-    print_bytes(block);
+    print_number(rt, aes::encipher(key, block))?;
+    print_bytes(rt, block)
 }
 
 // The last word of the key's schedule.
-fn set_up(key: &[u8]) {
+fn set_up(rt: &impl Print, key: &[u8]) -> io::Result<()> {
     let n = key.len();
     if !aes::key_size(n) {
-        print_number(Answer::Refused(Refusal::KeyLength));
-        return;
+        return print_number(rt, Answer::Refused(Refusal::KeyLength));
     }
     let keys = aes::key_setup(key);
     let nr = aes::rounds_of(n);
     let last = keys[nr];
-    print_number(Answer::Done);
-    print_byte(last[12]);
-    print_byte(last[13]);
-    print_byte(last[14]);
-    print_byte(last[15]);
+    print_number(rt, Answer::Done)?;
+    print_byte(rt, last[12])?;
+    print_byte(rt, last[13])?;
+    print_byte(rt, last[14])?;
+    print_byte(rt, last[15])
 }
 
 // The substitution of all bytes, or with `back` its inverse: by the running code, then by the table.
-fn substitutions(back: bool) {
+fn substitutions(rt: &impl Print, back: bool) -> io::Result<()> {
     let mut worked = [0u8; 256];
     count_up(&mut worked);
     let mut looked = worked;
     work_out(back, &mut worked);
     look_up(back, &mut looked);
-    print_bytes(&worked);
-    io::write_all(STDOUT_FILENO, b" ");
-    print_bytes(&looked);
+    print_bytes(rt, &worked)?;
+    rt.write_all(b" ")?;
+    print_bytes(rt, &looked)
 }
 
 // 0, 1, 2 and so on, past 255 from 0 again.
@@ -126,26 +125,27 @@ fn look_up(back: bool, s: &mut [u8]) {
     }
 }
 
-fn print_number(a: Answer) {
+fn print_number(rt: &impl Print, a: Answer) -> io::Result<()> {
     let n = answer_number(a);
     match n {
-        0 => io::write_all(STDOUT_FILENO, b"0 "),
-        1 => io::write_all(STDOUT_FILENO, b"1 "),
-        2 => io::write_all(STDOUT_FILENO, b"2 "),
-        _ => io::write_all(STDOUT_FILENO, b"? "),
-    };
-}
-
-fn print_bytes(s: &[u8]) {
-    let mut i = 0;
-    while i < s.len() {
-        print_byte(s[i]);
-        i += 1;
+        0 => rt.write_all(b"0 "),
+        1 => rt.write_all(b"1 "),
+        2 => rt.write_all(b"2 "),
+        _ => rt.write_all(b"? "),
     }
 }
 
-fn print_byte(x: u8) {
-    io::print_hex(STDOUT_FILENO, x as u64, 2);
+fn print_bytes(rt: &impl Print, s: &[u8]) -> io::Result<()> {
+    let mut i = 0;
+    while i < s.len() {
+        print_byte(rt, s[i])?;
+        i += 1;
+    }
+    Ok(())
+}
+
+fn print_byte(rt: &impl Print, x: u8) -> io::Result<()> {
+    print!(rt; "{x:02x}")
 }
 
 // The bytes of the hex digits after the blank at `from`, at the front of out.
