@@ -25,7 +25,7 @@ module _ (f g : List ℕ → List ℕ) (u : Undoes f g) where
   block_TTs : {R : List ℕ} → Block R → (Ts : List (List ℕ)) → AllBlocks Ts → AllBlocks (TTs f R Ts)
   unfolding TTs
   block_TTs h_r [] k = tt
-  block_TTs {R} h_r (T ∷ Ts) k = (block_⊕ (u.keeps (block_⊕ h_r k.0)) h_r, block_TTs (block_double R) Ts k.1)
+  block_TTs {R} h_r (T ∷ Ts) k = (block_⊕ (u.keeps (block_⊕ h_r k.0)) h_r, block_TTs {R = double R} (block_double R) Ts k.1)
 
   block_short : {R : List ℕ} → Block R → (s : List ℕ) → length s < 16 → Bytes s → AllBlocks (short_tt f R s)
   unfolding short_tt

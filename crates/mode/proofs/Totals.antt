@@ -20,12 +20,12 @@ swap {a} {b} {c} ha hb hc =
 pub block_total : {a : List ℕ} (xs : List (List ℕ)) → Block a → AllBlocks xs → Block (total a xs)
 unfolding total
 block_total [] h k = h
-block_total (x ∷ xs) h k = block_total xs (block_⊕ h k.0) k.1
+block_total {a} (x ∷ xs) h k = block_total {a = a ⊕ x} xs (block_⊕ h k.0) k.1
 
 total_add : {a b : List ℕ} (xs : List (List ℕ)) → Block a → Block b → AllBlocks xs → total (a ⊕ b) xs ≡ total a xs ⊕ b
 unfolding total
 total_add [] ha hb k = refl
-total_add (x ∷ xs) ha hb k = ap (λ (y : List ℕ). total y xs) (swap ha hb k.0) ∙ total_add xs (block_⊕ ha k.0) hb k.1
+total_add {a} (x ∷ xs) ha hb k = ap (λ (y : List ℕ). total y xs) (swap ha hb k.0) ∙ total_add {a = a ⊕ x} xs (block_⊕ ha k.0) hb k.1
 
 total_twice : {a : List ℕ} (xs : List (List ℕ)) → Block a → AllBlocks xs → total (total a xs) xs ≡ a
 unfolding total

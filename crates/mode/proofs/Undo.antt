@@ -40,12 +40,12 @@ module _ (f g : List ℕ → List ℕ) (u : Undoes f g) where
   pub block_enter : {L : List ℕ} → Block L → (Ps : List (List ℕ)) → AllBlocks Ps → AllBlocks (enter f L Ps)
   unfolding enter
   block_enter h_l [] k = tt
-  block_enter {L} h_l (P ∷ Ps) k = (u.keeps (block_⊕ h_l k.0), block_enter (block_double L) Ps k.1)
+  block_enter {L} h_l (P ∷ Ps) k = (u.keeps (block_⊕ h_l k.0), block_enter {L = double L} (block_double L) Ps k.1)
 
   pub block_leave : {L : List ℕ} → Block L → (Xs : List (List ℕ)) → AllBlocks Xs → AllBlocks (leave f L Xs)
   unfolding leave
   block_leave h_l [] k = tt
-  block_leave {L} h_l (X ∷ Xs) k = (block_⊕ (u.keeps k.0) h_l, block_leave (block_double L) Xs k.1)
+  block_leave {L} h_l (X ∷ Xs) k = (block_⊕ (u.keeps k.0) h_l, block_leave {L = double L} (block_double L) Xs k.1)
 
   enter_leave : {L : List ℕ} → Block L → (Xs : List (List ℕ)) → AllBlocks Xs → enter g L (leave f L Xs) ≡ Xs
   unfolding enter leave
@@ -53,7 +53,7 @@ module _ (f g : List ℕ → List ℕ) (u : Undoes f g) where
   enter_leave {L} h_l (X ∷ Xs) k =
       ap₂ (λ (x : List ℕ) (xs : List (List ℕ)). x ∷ xs)
       (ap g (around h_l (u.keeps k.0)) ∙ u.back k.0)
-      (enter_leave (block_double L) Xs k.1)
+      (enter_leave {L = double L} (block_double L) Xs k.1)
 
   leave_enter : {L : List ℕ} → Block L → (Ps : List (List ℕ)) → AllBlocks Ps → leave g L (enter f L Ps) ≡ Ps
   unfolding enter leave
@@ -61,7 +61,7 @@ module _ (f g : List ℕ → List ℕ) (u : Undoes f g) where
   leave_enter {L} h_l (P ∷ Ps) k =
       ap₂ (λ (x : List ℕ) (xs : List (List ℕ)). x ∷ xs)
       (ap (λ (x : List ℕ). x ⊕ L) (u.back (block_⊕ h_l k.0)) ∙ between h_l k.0)
-      (leave_enter (block_double L) Ps k.1)
+      (leave_enter {L = double L} (block_double L) Ps k.1)
 
   -- ---- the mixing of the blocks after the first
 

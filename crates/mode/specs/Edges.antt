@@ -1,12 +1,10 @@
 -- 01, both sides of each edge: D1 to D12, over the definitions, as one table.
 -- Assumes nothing.
-use Rattle.std.specs.Prelude.{◌≡◌, refl, List, [], ◌∷◌, ◌++◌, map, ℕ, suc, length, replicate}
-use Rattle.block.specs.Xor.{◌⊕◌}
+use Rattle.std.specs.Prelude.{◌≡◌, List, [], ◌∷◌, ◌++◌, map, ℕ, suc, length, replicate}
 use Rattle.block.specs.Blocks.{full, rest, blocks}
 use Rattle.block.specs.Double.{double, pad}
 use Rattle.sbox.specs.Sub.{sub}
-use Rattle.sbox.specs.Examples.{D12}
-use Rattle.mode.specs.Wide.{total, padded, middle, MP, CCCs}
+use Rattle.mode.specs.Wide.{CCCs}
 
 -- the length of a short last block, if there is one
 abbrev pub short_length : List ℕ → List ℕ
@@ -48,20 +46,3 @@ pub record Edges : Type 0 where
   pub D10 : masks_of 2064 ≡ 129 ∷ []
   pub D11 : masks_of 2065 ≡ 129 ∷ []
   pub D12 : sub 0x00 ≡ 0x63
-
-pub edges : Edges
-unfolding ◌⊕◌ double pad blocks total padded middle MP CCCs
-edges = record {
-  D1 = refl;
-  D2 = refl;
-  D3 = refl;
-  D4 = refl;
-  D5 = refl;
-  D6 = refl;
-  D7 = refl;
-  D8 = refl;
-  D9 = refl;
-  D10 = refl;
-  D11 = refl;
-  D12 = D12;
-}
