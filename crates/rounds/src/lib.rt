@@ -3,6 +3,8 @@
 // Contracts cite `specs/Steps.antt`. SubBytes and its inverse are the crate `sbox`'s, AddRoundKey is `block::xor`. That each step is
 // undone by its inverse, and that a block stays a block, is in `proofs/`: `Undo`. What the columns' products are made of, also for
 // a layer that goes through many blocks at once, is in `Columns`.
+#![tactic(auto)]
+
 ghost use Rattle.std.specs.Prelude.{◌≡◌};
 ghost use Rattle.sbox.specs.Field.{xtime};
 ghost use Rattle.rounds.specs.Steps.{shift_rows, inv_shift_rows, mix_columns, inv_mix_columns, each_times_x, columns_turned};
