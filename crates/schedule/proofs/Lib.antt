@@ -1,2 +1,3 @@
--- The laws of the key schedule that this crate's proofs and those of the layers above cite.
+-- The laws of the key schedule that this crate's proofs and those of the layers above cite, and worked examples.
 pub mod Laws
+pub mod Examples

@@ -1,4 +1,3 @@
--- FIPS 197, 5.2: the key sizes, the key schedule, and worked examples of it.
+-- FIPS 197, 5.2: the key sizes and the key schedule. Worked examples of it are in proofs/Examples.
 pub mod Size
 pub mod KeyExpansion
-pub mod Examples

@@ -1,6 +1,8 @@
 // FIPS 197, 5.2: key setup, over the number of words of the key.
 //
 // Contracts cite `specs/`: `key_size`, and `round_keys` of a key, which the code makes in a buffer of 60 words.
+#![tactic(auto)]
+
 ghost use Rattle.std.specs.Prelude.{◌≡◌, true, ◌++◌, ◌+◌, ◌-◌, ◌*◌, ◌/◌, ◌≤◌, ◌<◌, length, take, drop};
 ghost use Rattle.block.specs.Tab.{tab};
 ghost use Rattle.block.specs.Blocks.{block_at};
