@@ -22,7 +22,7 @@ pub fn link(name: &str) {
     println!("cargo::rerun-if-changed={}", archive.display());
     assert!(
         archive.is_file(),
-        "{} is missing: run `rt staticlib {name}` at the root of the repository",
+        "{} is missing: run `make libraries` at the root of the repository",
         archive.display()
     );
     println!("cargo::rustc-link-search=native={}", folder.display());

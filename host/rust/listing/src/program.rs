@@ -44,7 +44,7 @@ fn start(input: Stdio) -> Child {
     let program = program();
     assert!(
         program.is_file(),
-        "{} is missing: run `rt check listing` at the root of the repository",
+        "{} is missing: run `make listing` at the root of the repository",
         program.display()
     );
     Command::new(program)
