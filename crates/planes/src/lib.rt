@@ -2,6 +2,8 @@
 // whole planes, ShiftRows only picks them, and nothing moves within one.
 //
 // Contracts cite `specs/Lanes.antt`: what a step makes of each of the blocks is what FIPS 197's step makes of one.
+#![tactic(auto)]
+
 ghost use Rattle.std.specs.Prelude.{◌≡◌, cond, ◌++◌, ℕ, ◌+◌, ◌*◌, ◌≤◌, ◌<◌, ltb, length, take, drop};
 ghost use Rattle.block.specs.Tab.{tab, byte};
 ghost use Rattle.block.specs.Xor.{◌⊕◌};

@@ -8,31 +8,12 @@ use Rattle.block.specs.Tab.{byte}
 use Rattle.block.specs.Blocks.{block_at}
 use Rattle.planes.specs.Planes.{below}
 use Rattle.planes.proofs.Laws.{plane_lane}
-use Rattle.planes.proofs.row.Statement.{statement}
-use Rattle.planes.proofs.row.Tie as tie
+use Rattle.planes.proofs.row.Goals as goal
 
-mul-load : tie.Need-overflow-mul-load
-mul-load c = omega arith
-
-add-load : tie.Need-overflow-add-load
-add-load c = omega arith
-
-add-load-2 : tie.Need-overflow-add-load-2
-add-load-2 c = omega arith
-
-mul-load-2 : tie.Need-overflow-mul-load-2
-mul-load-2 c = omega arith
-
-load-requires : tie.Need-load-requires
-load-requires c κs = omega arith
-
-returns : tie.Need-returns
+pub returns : goal.returns
 returns c =
-    let a = c.before.before.args in
+    let a = c.args in
     let s : List ℕ = a.s.now in
     let e : 16 * (a.p / 4 * 4 + (a.p % 4 + a.k) % 4) ≡ 16 * below a.p a.k = omega arith in
     λ l h.
     ap (λ (r : List ℕ). byte r l) (c.load.ensures ∙ ap (λ (n : ℕ). block_at s n) e) ∙ plane_lane s (below a.p a.k) (omega arith) l h
-
-pub row-spec : {M : Type 1} → statement M
-row-spec = tie.close (tie.spec mul-load add-load add-load-2 mul-load-2 load-requires returns)
