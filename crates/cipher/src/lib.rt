@@ -1,6 +1,8 @@
 // FIPS 197, 5.1 and 5.3: Cipher and InvCipher. The round keys come by value from key setup; `nr` is the number of rounds.
 //
 // Contracts cite `specs/Cipher.antt`. That each direction undoes the other is in `proofs/`: `Undo`.
+#![tactic(auto)]
+
 ghost use Rattle.std.specs.Prelude.{◌≡◌, ◌++◌, map, ◌+◌, ◌≤◌, ◌<◌, length, take, drop};
 ghost use Rattle.block.specs.Blocks.{on_blocks};
 ghost use Rattle.cipher.specs.Cipher.{cipher, inv_cipher, crypted};

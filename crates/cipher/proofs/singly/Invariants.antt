@@ -1,0 +1,18 @@
+-- `cipher::singly` meets its contract: what is done, and what the blocks that are left make of the rest, is the whole.
+-- Assumes nothing.
+use mathlib.Core.Path.{◌≡◌}
+use mathlib.Core.List.{◌++◌, map}
+use Prim.Native.Nat.{◌-◌, ◌≤◌}
+use lib.ListN.{length, take, drop}
+use Rattle.block.specs.Blocks.{on_blocks}
+use Rattle.cipher.specs.Cipher.{crypted}
+use Rattle.cipher.proofs.singly.Given as goal
+
+abbrev pub invariant-loop-s : goal.invariant-loop-s
+invariant-loop-s l =
+    (l.at ≤ length l.s)
+    × (length l.s ≡ length l.initial.s)
+    × (take l.at l.s ++ on_blocks (map (crypted l.back l.keys l.nr)) (drop l.at l.s) ≡ take l.from l.initial.s ++ on_blocks (map (crypted l.back l.keys l.nr)) (drop l.from l.initial.s))
+
+abbrev pub decreases-loop-s : goal.decreases-loop-s
+decreases-loop-s l = length l.initial.s - l.at
