@@ -6,11 +6,13 @@
 // The numbers are the lengths and the call's answer. Where the answer is 0, the digest of the message follows, and whether the call of the
 // other direction then gave the message back; where it is a refusal, whether the message is as it was.
 // The lines to expect are the second implementation's (host/rust/second/examples/edges_eme2.rs).
+#![tactic(auto)]
+
 ghost use Rattle.std.specs.Prelude.{◌≡◌, ◌≤◌, ◌<◌, length};
 ghost use Rattle.lagunedo.specs.Calls.{Eme2Called};
 
-use libc::STDOUT_FILENO;
 use patterns::{digest, fill, is_pattern};
+use std::io;
 
 // None, and beside the two lengths of a key that 01 takes.
 const KEYS: [usize; 7] = [0, 47, 48, 49, 63, 64, 65];
@@ -19,17 +21,17 @@ const DATA: [usize; 7] = [0, 1, 15, 16, 17, 1024, 1025];
 // Beside the shortest and the longest message, and beside blocks 129 and 257, where a new mask begins.
 const MESSAGES: [usize; 11] = [15, 16, 17, 2048, 2049, 2064, 2065, 4096, 4112, 65536, 65537];
 
-fn main() {
+fn main(rt: HostRuntime) -> io::Result<()> {
     let mut key = [0u8; 65];
     let mut ad = [0u8; 1025];
     let mut message = [0u8; 65537];
     fill(&mut key, 7, 1);
     fill(&mut ad, 11, 5);
-    every_length(&key, &ad, &mut message);
+    every_length(&rt, &key, &ad, &mut message)
 }
 
 // Every length of the key with every length of the associated data and of the message, 7 by 7 by 11, each at the front of the longest one.
-fn every_length(key: &[u8], ad: &[u8], message: &mut [u8])
+fn every_length(rt: &impl Print, key: &[u8], ad: &[u8], message: &mut [u8]) -> io::Result<()>
     requires { (length key.now ≡ 65) × (length ad.now ≡ 1025) × (length message.old ≡ 65537) }
 {
     let mut i = 0;
@@ -37,50 +39,49 @@ fn every_length(key: &[u8], ad: &[u8], message: &mut [u8])
         let k = key_length(i / 11 / 7);
         let a = data_length(i / 11 % 7);
         let m = message_length(i % 11);
-        both_ways(&key[0..k], &ad[0..a], &mut message[0..m]);
+        both_ways(rt, &key[0..k], &ad[0..a], &mut message[0..m])?;
         i += 1;
     }
+    Ok(())
 }
 
-fn both_ways(key: &[u8], ad: &[u8], message: &mut [u8]) {
-    line(false, key, ad, message);
-    line(true, key, ad, message);
+fn both_ways(rt: &impl Print, key: &[u8], ad: &[u8], message: &mut [u8]) -> io::Result<()> {
+    line(rt, false, key, ad, message)?;
+    line(rt, true, key, ad, message)
 }
 
 // Makes one call on a fresh message, and prints its line.
-fn line(back: bool, key: &[u8], ad: &[u8], message: &mut [u8]) {
-    print_lengths(key.len(), ad.len(), message.len());
-    print_direction(back);
+fn line(rt: &impl Print, back: bool, key: &[u8], ad: &[u8], message: &mut [u8]) -> io::Result<()> {
+    print_lengths(rt, key.len(), ad.len(), message.len())?;
+    print_direction(rt, back)?;
     fill(message, 3, 0);
     let r = call(back, key, ad, message);
-    print_number(r as usize);
+    print_number(rt, r as usize)?;
     if r == 0 {
-        done(back, key, ad, message);
-        return;
+        return done(rt, back, key, ad, message);
     }
-    refused(message);
+    refused(rt, message)
 }
 
 // The rest of the line of a call that was made: the digest, and whether the other direction undoes it.
-fn done(back: bool, key: &[u8], ad: &[u8], message: &mut [u8]) {
-    print(b" ");
-    io::print_hex(STDOUT_FILENO, digest(message), 8);
+fn done(rt: &impl Print, back: bool, key: &[u8], ad: &[u8], message: &mut [u8]) -> io::Result<()> {
+    print(rt, b" ")?;
+    let d = digest(message);
+    print!(rt; "{d:08x}")?;
     if call(!back, key, ad, message) == 0 {
         if is_pattern(message, 3, 0) {
-            print(b" undone\n");
-            return;
+            return print(rt, b" undone\n");
         }
     }
-    print(b" NOT UNDONE\n");
+    print(rt, b" NOT UNDONE\n")
 }
 
 // The rest of the line of a call that was refused.
-fn refused(message: &[u8]) {
+fn refused(rt: &impl Print, message: &[u8]) -> io::Result<()> {
     if is_pattern(message, 3, 0) {
-        print(b" kept\n");
-        return;
+        return print(rt, b" kept\n");
     }
-    print(b" CHANGED\n");
+    print(rt, b" CHANGED\n")
 }
 
 // The call for C in a direction.
@@ -114,27 +115,26 @@ fn message_length(i: usize) -> usize
     MESSAGES[i]
 }
 
-fn print_lengths(key: usize, ad: usize, message: usize) {
-    print(b"key ");
-    print_number(key);
-    print(b" data ");
-    print_number(ad);
-    print(b" message ");
-    print_number(message);
+fn print_lengths(rt: &impl Print, key: usize, ad: usize, message: usize) -> io::Result<()> {
+    print(rt, b"key ")?;
+    print_number(rt, key)?;
+    print(rt, b" data ")?;
+    print_number(rt, ad)?;
+    print(rt, b" message ")?;
+    print_number(rt, message)
 }
 
-fn print_direction(back: bool) {
+fn print_direction(rt: &impl Print, back: bool) -> io::Result<()> {
     if back {
-        print(b" decipher ");
-        return;
+        return print(rt, b" decipher ");
     }
-    print(b" encipher ");
+    print(rt, b" encipher ")
 }
 
-fn print_number(n: usize) {
-    io::print_decimal(STDOUT_FILENO, n as u64);
+fn print_number(rt: &impl Print, n: usize) -> io::Result<()> {
+    print!(rt; "{n}")
 }
 
-fn print(text: &[u8]) {
-    io::write_all(STDOUT_FILENO, text);
+fn print(rt: &impl Print, text: &[u8]) -> io::Result<()> {
+    rt.write_all(text)
 }

@@ -1,4 +1,6 @@
 // The lines of a script, the kind of each and its numbers, what a line does by hand, and what is printed of a call: for the program `edges_store`.
+#![tactic(auto)]
+
 ghost use Rattle.std.specs.Prelude.{◌≤◌, ◌<◌, length};
 // What a line does to the store that is no call of it.
 mod prepare;
@@ -7,6 +9,7 @@ mod show;
 
 pub use prepare::by_hand;
 pub use show::{print, print_digest, print_field, print_kept, print_store};
+use std::io;
 
 // A line of the script: its fourth letter, and its first four numbers, 0 where there are fewer.
 #[derive(Drop)]
@@ -26,19 +29,19 @@ struct Digits {
 }
 
 // A line taken apart, once it is printed.
-pub fn echoed(line: &[u8]) -> Line {
-    print(line);
+pub fn echoed(rt: &impl Print, line: &[u8]) -> io::Result<Line> {
+    print(rt, line)?;
     let a = number(line, 0);
     let b = number(line, a.next);
     let c = number(line, b.next);
     let d = number(line, c.next);
-    Line {
+    Ok(Line {
         kind: letter(line),
         a: a.value,
         b: b.value,
         c: c.value,
         d: d.value,
-    }
+    })
 }
 
 // The fourth letter, or # where there is none or the line begins with it.

@@ -1,39 +1,40 @@
 // What is printed of a call: what it answered, and what it left.
 ghost use Rattle.std.specs.Prelude.{◌≡◌, length};
 
-use libc::STDOUT_FILENO;
 use patterns::digest;
+use std::io;
 
 // The digest of the store, and after a refusal whether it is as it was.
-pub fn print_store(r: u32, store: &[u8], before: &[u8])
+pub fn print_store(rt: &impl Print, r: u32, store: &[u8], before: &[u8]) -> io::Result<()>
     requires { length before.now ≡ length store.now }
 {
-    print_digest(b" store ", store);
+    print_digest(rt, b" store ", store)?;
     if r != 0 {
-        print_kept(same(store, before));
+        return print_kept(rt, same(store, before));
     }
+    Ok(())
 }
 
-pub fn print_kept(kept: bool) {
+pub fn print_kept(rt: &impl Print, kept: bool) -> io::Result<()> {
     if kept {
-        print(b" kept");
-        return;
+        return print(rt, b" kept");
     }
-    print(b" CHANGED");
+    print(rt, b" CHANGED")
 }
 
-pub fn print_digest(name: &[u8], s: &[u8]) {
-    print(name);
-    io::print_hex(STDOUT_FILENO, digest(s), 8);
+pub fn print_digest(rt: &impl Print, name: &[u8], s: &[u8]) -> io::Result<()> {
+    print(rt, name)?;
+    let d = digest(s);
+    print!(rt; "{d:08x}")
 }
 
-pub fn print_field(name: &[u8], value: u32) {
-    print(name);
-    io::print_decimal(STDOUT_FILENO, value as u64);
+pub fn print_field(rt: &impl Print, name: &[u8], value: u32) -> io::Result<()> {
+    print(rt, name)?;
+    print!(rt; "{value}")
 }
 
-pub fn print(text: &[u8]) {
-    io::write_all(STDOUT_FILENO, text);
+pub fn print(rt: &impl Print, text: &[u8]) -> io::Result<()> {
+    rt.write_all(text)
 }
 
 fn same(s: &[u8], t: &[u8]) -> bool

@@ -1,0 +1,10 @@
+-- `script::past_line` meets its contract: it stays within the text, and goes on by a byte at least.
+-- Assumes nothing.
+use Rattle.std.proofs.Common.{◌≤◌, ◌-◌, length}
+use Rattle.script.proofs.past_line.Given as goal
+
+abbrev pub invariant-loop-i : goal.invariant-loop-i
+invariant-loop-i l = (l.at ≤ l.i) × (l.i ≤ length l.text)
+
+abbrev pub decreases-loop-i : goal.decreases-loop-i
+decreases-loop-i l = length l.text - l.i

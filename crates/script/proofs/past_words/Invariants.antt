@@ -1,0 +1,10 @@
+-- `script::past_words` meets its contract: it stays within the line.
+-- Assumes nothing.
+use Rattle.std.proofs.Common.{◌≤◌, ◌-◌, length}
+use Rattle.script.proofs.past_words.Given as goal
+
+abbrev pub invariant-loop-i : goal.invariant-loop-i
+invariant-loop-i l = l.i ≤ length l.line
+
+abbrev pub decreases-loop-i : goal.decreases-loop-i
+decreases-loop-i l = length l.line - l.i
