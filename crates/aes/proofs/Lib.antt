@@ -1,2 +1,3 @@
--- What the calls' proofs need.
+-- What the calls' proofs need, and that the calls' promise determines them.
 pub mod Ladder
+pub mod CallLaws

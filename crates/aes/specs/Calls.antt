@@ -1,10 +1,9 @@
--- 01, AES, and 01's numbers: the two calls on a lent block, their refusals in order, and that their promise determines them.
+-- 01, AES, and 01's numbers: the two calls on a lent block, and their refusals in order. That their promise determines them is in proofs/CallLaws.
 -- Assumes nothing.
 use Rattle.std.specs.Prelude.{Bool, cond, not, ◌≡◌, List, ℕ, eqb, length}
-use Rattle.std.proofs.Common.{sym, ◌∙◌}
 use Rattle.numbers.specs.declared.Refusal.TheVariants.{KeyLength, MessageLength}
 use Rattle.numbers.specs.declared.Answer.{Answer}
-use Rattle.numbers.specs.Numbers.{paper, answer_paper, paper_apart}
+use Rattle.numbers.specs.Numbers.{paper, answer_paper}
 use Rattle.schedule.specs.Size.{key_size}
 use Rattle.aes.specs.Aes.{aes}
 
@@ -19,7 +18,3 @@ afterwards back k b = cond (eqb (number k b) 0) (aes back k b) b
 -- what the calls promise of their answer and of the block afterwards
 abbrev pub Called : (back : Bool) (k b : List ℕ) (answer : Answer) (b' : List ℕ) → Type 0
 Called back k b answer b' = (answer_paper answer ≡ number k b) × (b' ≡ afterwards back k b)
-
--- two answers that keep the promise are equal, and so are the bytes afterwards
-pub called_determined : (back : Bool) (k b : List ℕ) (a a' : Answer) (s s' : List ℕ) → Called back k b a s → Called back k b a' s' → (a ≡ a') × (s ≡ s')
-called_determined back k b a a' s s' p q = (paper_apart a a' (p.0 ∙ sym q.0), p.1 ∙ sym q.1)

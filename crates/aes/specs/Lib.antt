@@ -5,26 +5,26 @@
 --   4.1            a sum of bytes                    `block/specs/Xor: ◌⊕◌` (of lists of bytes)
 --   4.2            products of bytes                 `sbox/specs/Field: xtime, ◌•◌`
 --   4.3            a column times a fixed matrix     `rounds/specs/Steps: columns_times`
---   4.4            the inverse of a byte             `sbox/specs/Field: inverse`; `sbox/specs/Rule: inverse_rule, inverse_zero`
+--   4.4            the inverse of a byte             `sbox/specs/Field: inverse`; `sbox/proofs/RuleLaws: inverse_rule`; `sbox/specs/Rule: inverse_zero`
 --   5, table 3     Nk and Nr, by the key's size      `schedule/specs/Size: key_size, Nk, Nr`
 --   5.1            Cipher                            `cipher/specs/Cipher: through_rounds, cipher`
 --   5.1.1          SubBytes                          `sbox/specs/Sub: sub, sub_bytes`
 --       table 4    the substitution table            `sbox/specs/Tables: sbox`
---       the rule   inverse, then the affine step     `sbox/specs/Rule: affine, sub_rule`
+--       the rule   inverse, then the affine step     `sbox/specs/Rule: affine`; `sbox/proofs/RuleLaws: sub_rule`
 --   5.1.2          ShiftRows                         `rounds/specs/Steps: shift_rows`
 --   5.1.3          MixColumns                        `rounds/specs/Steps: mix_columns`
 --   5.1.4          AddRoundKey                       `rounds/specs/Steps: add_round_key`
 --   5.2            KeyExpansion                      `schedule/specs/KeyExpansion: temp, next_word, expanded, key_expansion, round_keys`
---       table 5    the round constants               `schedule/specs/KeyExpansion: rcon, Rcon`; `schedule/specs/Examples: round_constants`
+--       table 5    the round constants               `schedule/specs/KeyExpansion: rcon, Rcon`; `schedule/proofs/Examples: round_constants`
 --       RotWord    and SubWord                       `schedule/specs/KeyExpansion: rot_word`; `sbox/specs/Sub: sub_word`
 --   5.3            InvCipher                         `cipher/specs/Cipher: inverse_from, inv_cipher`
 --   5.3.1          InvShiftRows                      `rounds/specs/Steps: inv_shift_rows`
 --   5.3.2          InvSubBytes                       `sbox/specs/Sub: inv_sub, inv_sub_bytes`
---       table 6    the inverse table                 `sbox/specs/Tables: inv_sbox`; `sbox/specs/Rule: inv_sub-sub, sub-inv_sub`
+--       table 6    the inverse table                 `sbox/specs/Tables: inv_sbox`; `sbox/proofs/RuleLaws: inv_sub-sub, sub-inv_sub`
 --   5.3.3          InvMixColumns                     `rounds/specs/Steps: inv_mix_columns`
 --   5.3.4          AddRoundKey undoes itself         `block/proofs/XorLaws: ⊕_undo`
---   appendix A     key expansion examples            `schedule/specs/Examples: w4, w8, w12`
---   appendix B     cipher example, round 1           `rounds/specs/Examples`
+--   appendix A     key expansion examples            `schedule/proofs/Examples: w4, w8, w12`
+--   appendix B     cipher example, round 1           `rounds/proofs/Examples`
 --
 -- `planes` makes the same steps on sixteen blocks at once: `planes/specs/Lanes: Lanewise`.
 pub mod Aes

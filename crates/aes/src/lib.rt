@@ -4,6 +4,8 @@
 // the rooms below offer: `key_size`, which keys are taken; `rounds_of` and `key_setup`, the latter of a key that is taken; and `crypt` and
 // `crypt_blocks`, one block and all full blocks, under round keys and 1 to 14 rounds. Contracts above cite the names of `specs/Aes.antt`, and proofs
 // go by `specs/Promise.antt` alone.
+#![tactic(auto)]
+
 ghost use Rattle.aes.specs.Calls.{Called};
 ghost use Rattle.std.specs.Prelude.{true, false};
 
