@@ -71,3 +71,8 @@ module _ (s : List ℕ) where
   -- what is laid from the front on is the output
   pub listed : {t b b' : List ℕ} {n : ℕ} → listing s ≡ t → Laid t 0 b n b' → Listed s b n b'
   listed {t} {b} {b'} {n} e p = laid_front (laid_as (sym e) p)
+
+-- ---- the promise of `list` leaves nothing open
+
+pub listed_determined : (s b : List ℕ) (n n' : ℕ) (b' b'' : List ℕ) → Listed s b n b' → Listed s b n' b'' → (n ≡ n') × (b' ≡ b'')
+listed_determined s b n n' b' b'' p q = (p.0 ∙ sym q.0, p.1 ∙ sym q.1)

@@ -2,4 +2,3 @@
 pub mod Decimal
 pub mod Laid
 pub mod Listing
-pub mod Examples

@@ -2,7 +2,6 @@
 -- Texts are lists of ASCII.
 -- Assumes nothing.
 use Rattle.std.specs.Prelude.{cond, ◌≡◌, List, [], ◌∷◌, ◌++◌, ℕ, zero, suc, ◌*◌, ltb, length}
-use Rattle.std.proofs.Common.{sym, ◌∙◌}
 use Rattle.numbers.specs.Numbers.{paper}
 use Rattle.records.specs.Record.{record_size, num, rev, mark, len}
 use Rattle.slots.specs.Slots.{slots, slot}
@@ -95,6 +94,3 @@ listing s = cond (ltb most (length s)) too_long (report s (check_answer s))
 -- it fits, and else what it held
 abbrev pub Listed : List ℕ → List ℕ → ℕ → List ℕ → Type 0
 Listed s b n b' = (n ≡ length (listing s)) × (b' ≡ overlay (listing s) b)
-
-pub listed_determined : (s b : List ℕ) (n n' : ℕ) (b' b'' : List ℕ) → Listed s b n b' → Listed s b n' b'' → (n ≡ n') × (b' ≡ b'')
-listed_determined s b n n' b' b'' p q = (p.0 ∙ sym q.0, p.1 ∙ sym q.1)

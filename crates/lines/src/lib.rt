@@ -1,6 +1,8 @@
 // The listing of 01: what the listing program prints of a store, written into a lent buffer.
 //
 // `list` answers any bytes. Its contract cites `specs/Listing.antt`, where one definition gives the whole output from the input's bytes.
+#![tactic(auto)]
+
 // Bytes laid into the buffer.
 mod laying;
 // Numbers in decimal.
