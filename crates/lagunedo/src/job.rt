@@ -9,8 +9,7 @@ pub struct Job {
 }
 
 // One step of the job at its place; 1, 4.
-#[unsafe(no_mangle)]
-pub extern "C" fn lagunedo_job_step(
+pub fn lagunedo_job_step(
     job: &mut Job,
     old: &[u8],
     new: &[u8],

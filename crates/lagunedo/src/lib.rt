@@ -18,32 +18,28 @@ pub use store_calls::{
 pub use xts_calls::{lagunedo_xts_block, lagunedo_xts_decipher, lagunedo_xts_encipher};
 
 // Overwrites the block with its encipherment under the key; 1, 2.
-#[unsafe(no_mangle)]
-pub extern "C" fn lagunedo_aes_encipher(key: &[u8], block: &mut [u8]) -> u32
+pub fn lagunedo_aes_encipher(key: &[u8], block: &mut [u8]) -> u32
     ensures { AesCalled false key.now block.old result block.new }
 {
     answer_number(aes::encipher(key, block))
 }
 
 // Overwrites the block with its decipherment under the key; 1, 2.
-#[unsafe(no_mangle)]
-pub extern "C" fn lagunedo_aes_decipher(key: &[u8], block: &mut [u8]) -> u32
+pub fn lagunedo_aes_decipher(key: &[u8], block: &mut [u8]) -> u32
     ensures { AesCalled true key.now block.old result block.new }
 {
     answer_number(aes::decipher(key, block))
 }
 
 // Overwrites the message with its encipherment under the key and the associated data; 1, 2, 3.
-#[unsafe(no_mangle)]
-pub extern "C" fn lagunedo_eme2_encipher(key: &[u8], ad: &[u8], message: &mut [u8]) -> u32
+pub fn lagunedo_eme2_encipher(key: &[u8], ad: &[u8], message: &mut [u8]) -> u32
     ensures { Eme2Called false key.now ad.now message.old result message.new }
 {
     answer_number(eme2::encipher(key, ad, message))
 }
 
 // Overwrites the message with its decipherment under the key and the associated data; 1, 2, 3.
-#[unsafe(no_mangle)]
-pub extern "C" fn lagunedo_eme2_decipher(key: &[u8], ad: &[u8], message: &mut [u8]) -> u32
+pub fn lagunedo_eme2_decipher(key: &[u8], ad: &[u8], message: &mut [u8]) -> u32
     ensures { Eme2Called true key.now ad.now message.old result message.new }
 {
     answer_number(eme2::decipher(key, ad, message))

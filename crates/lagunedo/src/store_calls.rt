@@ -2,8 +2,7 @@
 ghost use Rattle.answers.specs.Sheets.{CheckedForC, ReadForC, AddForC, AddXtsForC, ReviseForC, RemoveForC, StepForC};
 
 // The five counts of a sound store; 256 and the lowest faulty slot; 4.
-#[unsafe(no_mangle)]
-pub extern "C" fn lagunedo_check(
+pub fn lagunedo_check(
     store: &[u8],
     fault: &mut u32,
     used: &mut u32,
@@ -27,8 +26,7 @@ pub extern "C" fn lagunedo_check(
 }
 
 // The text of a sheet in clear to the front of the buffer; 1, 4, 5, 7, 12, 13, 14.
-#[unsafe(no_mangle)]
-pub extern "C" fn lagunedo_read(
+pub fn lagunedo_read(
     old: &[u8],
     new: &[u8],
     store: &[u8],
@@ -47,8 +45,7 @@ pub extern "C" fn lagunedo_read(
 }
 
 // A new sheet at revision 1; 1, 4, 5, 6, 11, 10.
-#[unsafe(no_mangle)]
-pub extern "C" fn lagunedo_add(
+pub fn lagunedo_add(
     old: &[u8],
     new: &[u8],
     store: &mut [u8],
@@ -65,8 +62,7 @@ pub extern "C" fn lagunedo_add(
 }
 
 // A new sheet from a data unit under XTS-AES; 15, 16, then add's own.
-#[unsafe(no_mangle)]
-pub extern "C" fn lagunedo_add_xts(
+pub fn lagunedo_add_xts(
     key: &[u8],
     number: u64,
     unit: &[u8],
@@ -85,8 +81,7 @@ pub extern "C" fn lagunedo_add_xts(
 }
 
 // A sheet's text replaced whole, its revision one higher than the one seen; 1, 4, 5, 6, 7, 12, 8, 9.
-#[unsafe(no_mangle)]
-pub extern "C" fn lagunedo_revise(
+pub fn lagunedo_revise(
     old: &[u8],
     new: &[u8],
     store: &mut [u8],
@@ -104,16 +99,14 @@ pub extern "C" fn lagunedo_revise(
 }
 
 // A sheet's slot zeroed; 4, 5, 7.
-#[unsafe(no_mangle)]
-pub extern "C" fn lagunedo_remove(store: &mut [u8], sheet: u32) -> u32
+pub fn lagunedo_remove(store: &mut [u8], sheet: u32) -> u32
     ensures { RemoveForC store.old sheet result store.new }
 {
     answers::remove(store, sheet)
 }
 
 // One step of the rekeying job at its place; 1, 4.
-#[unsafe(no_mangle)]
-pub extern "C" fn lagunedo_step(
+pub fn lagunedo_step(
     old: &[u8],
     new: &[u8],
     store: &mut [u8],

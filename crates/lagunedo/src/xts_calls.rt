@@ -11,24 +11,21 @@ struct BlockValues {
 }
 
 // Overwrites the unit with its encipherment under the key and the unit's number; 15, 16.
-#[unsafe(no_mangle)]
-pub extern "C" fn lagunedo_xts_encipher(key: &[u8], number: u64, unit: &mut [u8]) -> u32
+pub fn lagunedo_xts_encipher(key: &[u8], number: u64, unit: &mut [u8]) -> u32
     ensures { XtsCalled false key.now number unit.old result unit.new }
 {
     answer_number(xts::encipher(key, number, unit))
 }
 
 // Overwrites the unit with its decipherment under the key and the unit's number; 15, 16.
-#[unsafe(no_mangle)]
-pub extern "C" fn lagunedo_xts_decipher(key: &[u8], number: u64, unit: &mut [u8]) -> u32
+pub fn lagunedo_xts_decipher(key: &[u8], number: u64, unit: &mut [u8]) -> u32
     ensures { XtsCalled true key.now number unit.old result unit.new }
 {
     answer_number(xts::decipher(key, number, unit))
 }
 
 // Block k of the unit, deciphered by itself; 15, 16, 17.
-#[unsafe(no_mangle)]
-pub extern "C" fn lagunedo_xts_block(
+pub fn lagunedo_xts_block(
     key: &[u8],
     number: u64,
     unit: &[u8],

@@ -1,0 +1,111 @@
+// The store's calls.
+ghost use Rattle.answers.specs.Sheets.{CheckedForC, ReadForC, AddForC, AddXtsForC, ReviseForC, RemoveForC, StepForC};
+
+// The five counts of a sound store; 256 and the lowest faulty slot; 4.
+#[unsafe(no_mangle)]
+pub extern "C" fn lagunedo_check(
+    store: &[u8],
+    fault: &mut u32,
+    used: &mut u32,
+    free: &mut u32,
+    clear: &mut u32,
+    old: &mut u32,
+    new: &mut u32,
+) -> u32
+    ensures { CheckedForC store.now fault.old used.old free.old clear.old
+        old.old new.old result fault.new used.new free.new clear.new
+        old.new new.new }
+{
+    lagunedo::lagunedo_check(store, fault, used, free, clear, old, new)
+}
+
+// The text of a sheet in clear to the front of the buffer; 1, 4, 5, 7, 12, 13, 14.
+#[unsafe(no_mangle)]
+pub extern "C" fn lagunedo_read(
+    old: &[u8],
+    new: &[u8],
+    store: &[u8],
+    sheet: u32,
+    text: &mut [u8],
+    length: &mut u32,
+    revision: &mut u32,
+) -> u32
+    ensures { ReadForC old.now new.now store.now sheet text.old length.old
+        revision.old result text.new length.new revision.new }
+{
+    lagunedo::lagunedo_read(old, new, store, sheet, text, length, revision)
+}
+
+// A new sheet at revision 1; 1, 4, 5, 6, 11, 10.
+#[unsafe(no_mangle)]
+pub extern "C" fn lagunedo_add(
+    old: &[u8],
+    new: &[u8],
+    store: &mut [u8],
+    sheet: u32,
+    text: &[u8],
+    revision: &mut u32,
+) -> u32
+    ensures { AddForC old.now new.now store.old sheet text.now revision.old result
+        store.new revision.new }
+{
+    lagunedo::lagunedo_add(old, new, store, sheet, text, revision)
+}
+
+// A new sheet from a data unit under XTS-AES; 15, 16, then add's own.
+#[unsafe(no_mangle)]
+pub extern "C" fn lagunedo_add_xts(
+    key: &[u8],
+    number: u64,
+    unit: &[u8],
+    old: &[u8],
+    new: &[u8],
+    store: &mut [u8],
+    sheet: u32,
+    revision: &mut u32,
+) -> u32
+    ensures { AddXtsForC key.now number unit.now old.now new.now store.old sheet
+        revision.old result store.new revision.new }
+{
+    lagunedo::lagunedo_add_xts(key, number, unit, old, new, store, sheet, revision)
+}
+
+// A sheet's text replaced whole, its revision one higher than the one seen; 1, 4, 5, 6, 7, 12, 8, 9.
+#[unsafe(no_mangle)]
+pub extern "C" fn lagunedo_revise(
+    old: &[u8],
+    new: &[u8],
+    store: &mut [u8],
+    sheet: u32,
+    seen: u32,
+    text: &[u8],
+    revision: &mut u32,
+) -> u32
+    ensures { ReviseForC old.now new.now store.old sheet seen text.now
+        revision.old result store.new revision.new }
+{
+    lagunedo::lagunedo_revise(old, new, store, sheet, seen, text, revision)
+}
+
+// A sheet's slot zeroed; 4, 5, 7.
+#[unsafe(no_mangle)]
+pub extern "C" fn lagunedo_remove(store: &mut [u8], sheet: u32) -> u32
+    ensures { RemoveForC store.old sheet result store.new }
+{
+    lagunedo::lagunedo_remove(store, sheet)
+}
+
+// One step of the rekeying job at its place; 1, 4.
+#[unsafe(no_mangle)]
+pub extern "C" fn lagunedo_step(
+    old: &[u8],
+    new: &[u8],
+    store: &mut [u8],
+    place: &mut usize,
+    outcome: &mut u32,
+) -> u32
+    ensures { StepForC old.now new.now store.old place.old outcome.old result
+        store.new place.new outcome.new }
+{
+    lagunedo::lagunedo_step(old, new, store, place, outcome)
+}
