@@ -2,6 +2,8 @@
 //
 // Each ladder only reads. Contracts cite `specs/Plans.antt`: the tests in 01's order, and at their end the slot to work on. The calls
 // that do what a plan says are a room above.
+#![tactic(auto)]
+
 // What is wrong with keys and text by their lengths.
 mod faults;
 // A ladder for each call.

@@ -1,6 +1,8 @@
 // The text that a record holds, in clear or under a key, and a sheet written whole under the new key (01, the store).
 //
 // Contracts cite `specs/Text.antt`. EME2 is used by what its call leaves, and never opened. Nothing here refuses: the calls are rooms above.
+#![tactic(auto)]
+
 // A sheet in a slot of a store.
 mod at_slot;
 // The text of one record.

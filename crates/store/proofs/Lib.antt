@@ -2,3 +2,4 @@
 pub mod StepLaws
 pub mod RoundTrip
 pub mod Retry
+pub mod Determined

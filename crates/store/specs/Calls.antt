@@ -1,8 +1,7 @@
--- 01, the store: what each call answers and what it leaves in the store, the text buffer and the job's place, for every input; and that these
--- statements determine them. Keys: o the old one, w the new one. The store is s, and s' afterwards.
+-- 01, the store: what each call answers and what it leaves in the store, the text buffer and the job's place, for every input; `proofs/Determined`
+-- has that these statements determine them. Keys: o the old one, w the new one. The store is s, and s' afterwards.
 -- Assumes nothing.
 use Rattle.std.specs.Prelude.{cond, not, ◌≡◌, List, ◌++◌, ℕ, ◌+◌, eqb, leb, length, drop}
-use Rattle.std.proofs.Common.{sym, ◌∙◌}
 use Rattle.records.specs.Record.{num, rev, mark, len, sound}
 use Rattle.slots.specs.Slots.{slots, slot, put, emptied}
 use Rattle.sheets.specs.Text.{text_of, sheet}
@@ -34,10 +33,6 @@ read_buffer o w s b (At k) = text_of o w (slot s k) ++ drop (len (slot s k)) b
 abbrev pub ReadCalled : (o w s : List ℕ) (n : ℕ) (b : List ℕ) (a : Text) (b' : List ℕ) → Type 0
 ReadCalled o w s n b a b' = (a ≡ read_answer s (read_plan o w s n (length b))) × (b' ≡ read_buffer o w s b (read_plan o w s n (length b)))
 
-pub read_determined : (o w s : List ℕ) (n : ℕ) (b : List ℕ) (a a' : Text) (c c' : List ℕ)
-    → ReadCalled o w s n b a c → ReadCalled o w s n b a' c' → (a ≡ a') × (c ≡ c')
-read_determined o w s n b a a' c c' p q = (p.0 ∙ sym q.0, p.1 ∙ sym q.1)
-
 -- ---- add: sheet n with text t, at revision 1
 
 abbrev pub add_answer : Plan → Stored
@@ -50,10 +45,6 @@ add_store w s n t (At k) = put s k (sheet w n 1 t)
 
 abbrev pub AddCalled : (o w s : List ℕ) (n : ℕ) (t : List ℕ) (a : Stored) (s' : List ℕ) → Type 0
 AddCalled o w s n t a s' = (a ≡ add_answer (add_plan o w s n t)) × (s' ≡ add_store w s n t (add_plan o w s n t))
-
-pub add_determined : (o w s : List ℕ) (n : ℕ) (t : List ℕ) (a a' : Stored) (s' s'' : List ℕ)
-    → AddCalled o w s n t a s' → AddCalled o w s n t a' s'' → (a ≡ a') × (s' ≡ s'')
-add_determined o w s n t a a' s' s'' p q = (p.0 ∙ sym q.0, p.1 ∙ sym q.1)
 
 -- ---- revise: sheet n, seen at revision v, with text t; the revision is one higher
 
@@ -68,10 +59,6 @@ revise_store w s n t (At k) = put s k (sheet w n (rev (slot s k) + 1) t)
 abbrev pub ReviseCalled : (o w s : List ℕ) (n v : ℕ) (t : List ℕ) (a : Stored) (s' : List ℕ) → Type 0
 ReviseCalled o w s n v t a s' = (a ≡ revise_answer s (revise_plan o w s n v t)) × (s' ≡ revise_store w s n t (revise_plan o w s n v t))
 
-pub revise_determined : (o w s : List ℕ) (n v : ℕ) (t : List ℕ) (a a' : Stored) (s' s'' : List ℕ)
-    → ReviseCalled o w s n v t a s' → ReviseCalled o w s n v t a' s'' → (a ≡ a') × (s' ≡ s'')
-revise_determined o w s n v t a a' s' s'' p q = (p.0 ∙ sym q.0, p.1 ∙ sym q.1)
-
 -- ---- remove: sheet n; the slot is zeroed, sound or not
 
 abbrev pub remove_answer : Plan → Removed
@@ -84,9 +71,6 @@ remove_store s (At k) = put s k emptied
 
 abbrev pub RemoveCalled : List ℕ → ℕ → Removed → List ℕ → Type 0
 RemoveCalled s n a s' = (a ≡ remove_answer (remove_plan s n)) × (s' ≡ remove_store s (remove_plan s n))
-
-pub remove_determined : (s : List ℕ) (n : ℕ) (a a' : Removed) (s' s'' : List ℕ) → RemoveCalled s n a s' → RemoveCalled s n a' s'' → (a ≡ a') × (s' ≡ s'')
-remove_determined s n a a' s' s'' p q = (p.0 ∙ sym q.0, p.1 ∙ sym q.1)
 
 -- ---- step: on the slot at the job's place
 
@@ -130,7 +114,3 @@ step_store o w s (At k) = converted_at o w s k (outcome_at s k)
 
 abbrev pub StepCalled : (o w s : List ℕ) (k : ℕ) (a : Stepped) (s' : List ℕ) → Type 0
 StepCalled o w s k a s' = (a ≡ step_answer s (step_plan o w s k)) × (s' ≡ step_store o w s (step_plan o w s k))
-
-pub step_determined : (o w s : List ℕ) (k : ℕ) (a a' : Stepped) (s' s'' : List ℕ)
-    → StepCalled o w s k a s' → StepCalled o w s k a' s'' → (a ≡ a') × (s' ≡ s'')
-step_determined o w s k a a' s' s'' p q = (p.0 ∙ sym q.0, p.1 ∙ sym q.1)

@@ -2,6 +2,8 @@
 //
 // Every call answers any bytes, keys and numbers. Its ladder of refusals is a function that only reads (crate `plans`), and the call does what the plan
 // says. Contracts cite `specs/Calls.antt`: what a call answers and the bytes afterwards, by equations.
+#![tactic(auto)]
+
 // Read.
 mod reading;
 // One step of the rekeying job.
