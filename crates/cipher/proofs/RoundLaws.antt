@@ -26,7 +26,8 @@ pub round_undone : (keys : List (List ℕ)) (j : ℕ) (s : List ℕ) → 0 < j
 unfolding inverse_from
 round_undone keys j s h =
     let m : suc (j - 1) ≡ j = omega arith in
-    ap (λ (i : ℕ). inverse_from keys (j - 1) (inv_mix_columns (inv_sub_bytes (inv_shift_rows s) ⊕ round_key keys i))) (sym m) ∙ ap (λ (i : ℕ). inverse_from keys i s) m
+    ap (λ (i : ℕ). inverse_from keys (j - 1) (inv_mix_columns (inv_sub_bytes (inv_shift_rows s) ⊕ round_key keys i))) (sym m)
+    ∙ ap (λ (i : ℕ). inverse_from keys i s) m
 
 pub last_undone : (keys : List (List ℕ)) (s : List ℕ) → inv_sub_bytes (inv_shift_rows s) ⊕ round_key keys 0 ≡ inverse_from keys 0 s
 unfolding inverse_from

@@ -8,7 +8,10 @@ use Rattle.sbox.specs.Directions.{directed}
 use Rattle.sbox.proofs.together.Given as goal
 
 abbrev pub invariant-loop-s : goal.invariant-loop-s
-invariant-loop-s l = (l.at ≤ length l.initial.s) × (length l.s ≡ length l.initial.s) × (l.s ≡ take l.at (map (directed l.back) l.initial.s) ++ drop l.at l.initial.s)
+invariant-loop-s l =
+    (l.at ≤ length l.initial.s)
+    × (length l.s ≡ length l.initial.s)
+    × (l.s ≡ take l.at (map (directed l.back) l.initial.s) ++ drop l.at l.initial.s)
 
 abbrev pub decreases-loop-s : goal.decreases-loop-s
 decreases-loop-s l = length l.initial.s - l.at
