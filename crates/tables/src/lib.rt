@@ -3,6 +3,8 @@
 //
 // Contracts are those of `sbox`'s functions of the same names, and cite its `specs/`. That the tables follow the field's rule and undo each
 // other is proved there, once over the whole tables.
+#![tactic(auto)]
+
 ghost use Rattle.std.specs.Prelude.{◌≡◌, map};
 ghost use Rattle.block.specs.Tab.{byte};
 ghost use Rattle.sbox.specs.Sub.{sub, inv_sub, sub_bytes, inv_sub_bytes, sub_word, looked_up};

@@ -1,0 +1,8 @@
+-- `tables::sub_all` meets its contract: the table that is lent is the one of the definition.
+-- Assumes nothing.
+use Rattle.sbox.specs.Sub.{sub}
+use Rattle.tables.proofs.sub_all.Goals as goal
+
+pub returns : goal.returns
+unfolding sub
+returns c = c.all_looked_up.ensures
