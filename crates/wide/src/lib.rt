@@ -2,6 +2,7 @@
 //
 // `wide` takes any L and T_star, so that a mode is a choice of these two: EME2 has Key2 and `t_star` under Key3. Both ensure the definitions of
 // the crate `mode`, where it is proved, over any two functions that undo each other, that the wide block is undone and keeps the length.
+#![tactic(auto)]
 
 // T_star.
 mod associated;

@@ -5,30 +5,22 @@ use mathlib.Core.Bool.{Bool, cond}
 use mathlib.Core.List.{List}
 use Prim.Native.Nat.{ℕ, ◌*◌, ◌<◌}
 use native.Mathlib.Omega.{arith}
-use borrow.Author.Rules.{rules}
 use lib.ListN.{length, length-drop}
 use Rattle.block.specs.Blocks.{full, rest}
 use Rattle.aes.specs.Aes.{crypted}
 use Rattle.mode.proofs.ShortBlock.{not_short, is_short_lem}
-use Rattle.wide.proofs.mixing.mc1.Statement.{statement}
-use Rattle.wide.proofs.mixing.mc1.Tie as tie
+use Rattle.wide.proofs.mixing.mc1.Goals as goal
 
-returns : tie.Need-returns
-returns c =
-    let a = c.before.before.args in
+pub returns-then-s-eq0 : goal.returns-then-s-eq0
+returns-then-s-eq0 c =
+    let a = c.args in
     let s : List ℕ = a.s.now in
     let n : length (rest s) ≡ 0 = length-drop (full s * 16) s ∙ omega arith in
     ap (λ (t : Bool). cond t (crypted a.back a.keys a.nr a.mm) a.mm) (sym (not_short (rest s) n))
 
-crypt-requires : tie.Need-crypt-requires
-crypt-requires c κs = search rules
-
-returns-2 : tie.Need-returns-2
-returns-2 c =
-    let a = c.before.before.before.args in
+pub returns : goal.returns
+returns c =
+    let a = c.args in
     let s : List ℕ = a.s.now in
     let n : 0 < length (rest s) = omega (arith, length-drop (full s * 16) s) in
     c.crypt.ensures ∙ ap (λ (t : Bool). cond t (crypted a.back a.keys a.nr a.mm) a.mm) (sym (is_short_lem (rest s) n))
-
-pub mc1-spec : {M : Type 1} → statement M
-mc1-spec = tie.close (tie.spec returns crypt-requires returns-2)
