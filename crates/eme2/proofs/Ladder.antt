@@ -6,6 +6,7 @@ use mathlib.Core.List.{List}
 use mathlib.Core.Logic.{inl, inr}
 use Prim.Native.Nat.{ℕ, ◌-◌, ◌≤◌, ◌<◌}
 use native.Mathlib.Omega.{arith}
+use borrow.Author.Tests.{ne_eqb}
 use lib.Dec.{eqb}
 use lib.ListN.{length}
 use Rattle.numbers.specs.declared.Refusal.TheVariants.{KeyLength, MessageLength, DataLength}
@@ -36,6 +37,26 @@ module _ (back : Bool) (k ad m : List ℕ) where
   pub done : key_taken k ≡ true → 16 ≤ length m → length m ≤ 65536 → length ad ≤ 1024
       → (m' : List ℕ) → m' ≡ eme2 back k ad m → Called back k ad m Done m'
   done e h l g m' p = let n : number k ad m ≡ 0 = (number_0 k ad m).1 (e, (h, l), g) in (sym n, p ∙ sym (with_number 0 n))
+
+-- the refusals part by part, by which `call`'s tactics find each refused return, whatever the numbers are that the code tests against
+module _ (k ad m : List ℕ) where
+  pub number_by_key : key_taken k ≡ false → number k ad m ≡ 1
+  number_by_key e = (number_1 k ad m).1 e
+
+  pub number_below : key_taken k ≡ true → length m < 16 → number k ad m ≡ 2
+  number_below e h = (number_2 k ad m).1 (e, inl h)
+
+  pub number_above : key_taken k ≡ true → 65536 < length m → number k ad m ≡ 2
+  number_above e h = (number_2 k ad m).1 (e, inr h)
+
+  pub number_by_data : key_taken k ≡ true → 16 ≤ length m → length m ≤ 65536 → 1024 < length ad → number k ad m ≡ 3
+  number_by_data e h l g = (number_3 k ad m).1 (e, (h, l), g)
+
+pub kept : (back : Bool) (k ad m : List ℕ) → (number k ad m ≡ 0 → ⊥) → afterwards back k ad m ≡ m
+unfolding afterwards
+kept back k ad m h = ap (λ (t : Bool). cond t (eme2 back k ad m) m) (ne_eqb (number k ad m) 0 h)
+
+pub ruleset refusals = (number_by_key, number_below, number_above, number_by_data, kept)
 
 -- a key that is too short for Key2 and Key3
 pub key_below : (k : List ℕ) → length k < 32 → key_taken k ≡ false

@@ -3,3 +3,4 @@ pub mod Bounds
 pub mod Promise
 pub mod KeyLaws
 pub mod Ladder
+pub mod Determined

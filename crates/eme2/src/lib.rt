@@ -2,6 +2,8 @@
 //
 // `encipher` and `decipher` are the calls of 01: they take any key, associated data and message, and refuse with 1, 2 and 3. What is
 // proved of every message is in `proofs/Promise.antt`: the length is kept, and each direction undoes the other.
+#![tactic(auto)]
+
 ghost use Rattle.std.specs.Prelude.{true, false, ◌≡◌, ◌≤◌, length};
 ghost use Rattle.eme2.specs.Transform.{key_taken, eme2};
 ghost use Rattle.eme2.specs.Calls.{Called};
@@ -23,6 +25,7 @@ pub fn decipher(key: &[u8], ad: &[u8], message: &mut [u8]) -> Answer
 }
 
 // 01, numbers: the key is tested first, then the message, then the associated data.
+#[tactic(auto, using(crate::proofs::Ladder::refusals))]
 fn call(back: bool, key: &[u8], ad: &[u8], message: &mut [u8]) -> Answer
     ensures { Called back key.now ad.now message.old result message.new }
 {
