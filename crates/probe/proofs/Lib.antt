@@ -1,2 +1,3 @@
 -- What is proved of the probe's promises.
 pub mod WideLadder
+pub mod Determined

@@ -1,7 +1,6 @@
--- What the probe promises of its number and of the buffer afterwards, and that the promise determines them.
+-- What the probe promises of its number and of the buffer afterwards; `proofs/Determined` has that the promise determines them.
 -- Assumes nothing.
 use Rattle.std.specs.Prelude.{Bool, cond, not, ◌&&◌, ◌≡◌, List, map, ℕ, eqb, ltb, length}
-use Rattle.std.proofs.Common.{sym, ◌∙◌}
 use Rattle.block.specs.Blocks.{on_blocks}
 use Rattle.sbox.specs.Sub.{sub, inv_sub}
 use Rattle.aes.specs.Aes.{key_size, aes}
@@ -9,10 +8,6 @@ use Rattle.mode.specs.Wide.{wide}
 
 abbrev pub BlocksCalled : (back : Bool) (k s : List ℕ) (n : ℕ) (s' : List ℕ) → Type 0
 BlocksCalled back k s n s' = (n ≡ cond (key_size (length k)) 0 1) × (s' ≡ cond (key_size (length k)) (on_blocks (map (aes back k)) s) s)
-
-pub blocks_determined : (back : Bool) (k s : List ℕ) (n n' : ℕ) (t t' : List ℕ)
-    → BlocksCalled back k s n t → BlocksCalled back k s n' t' → (n ≡ n') × (t ≡ t')
-blocks_determined back k s n n' t t' p q = (p.0 ∙ sym q.0, p.1 ∙ sym q.1)
 
 -- 1: a key that AES does not take. 2: L or T_star is not a block, or the message has no full block
 unfoldable pub wide_number : List ℕ → List ℕ → List ℕ → List ℕ → ℕ
@@ -24,17 +19,9 @@ wide_afterwards back k L T m = cond (eqb (wide_number k L T m) 0) (wide (aes bac
 abbrev pub WideCalled : (back : Bool) (k L T m : List ℕ) (n : ℕ) (m' : List ℕ) → Type 0
 WideCalled back k L T m n m' = (n ≡ wide_number k L T m) × (m' ≡ wide_afterwards back k L T m)
 
-pub wide_determined : (back : Bool) (k L T m : List ℕ) (n n' : ℕ) (s s' : List ℕ)
-    → WideCalled back k L T m n s → WideCalled back k L T m n' s' → (n ≡ n') × (s ≡ s')
-wide_determined back k L T m n n' s s' p q = (p.0 ∙ sym q.0, p.1 ∙ sym q.1)
-
 -- the substitution of every byte of the buffer, or its inverse
 unfoldable pub substituted_back : Bool → List ℕ → List ℕ
 substituted_back back s = cond back (map inv_sub s) (map sub s)
 
 abbrev pub SubstitutionCalled : (back : Bool) (s : List ℕ) (n : ℕ) (s' : List ℕ) → Type 0
 SubstitutionCalled back s n s' = (n ≡ 0) × (s' ≡ substituted_back back s)
-
-pub substitution_determined : (back : Bool) (s : List ℕ) (n n' : ℕ) (t t' : List ℕ)
-    → SubstitutionCalled back s n t → SubstitutionCalled back s n' t' → (n ≡ n') × (t ≡ t')
-substitution_determined back s n n' t t' p q = (p.0 ∙ sym q.0, p.1 ∙ sym q.1)

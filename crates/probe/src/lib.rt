@@ -1,6 +1,8 @@
 // A window for tests and benchmarks on calls that the layers use among themselves and the interface for C does not show: AES over
 // all full blocks of a buffer, and the wide block under any L and T_star; the substitution of bytes, as the running code has it and as it
 // is looked up in its tables. Nothing of the job server links it.
+#![tactic(auto)]
+
 ghost use Rattle.probe.specs.Calls.{BlocksCalled, WideCalled, SubstitutionCalled};
 
 // Enciphers, or with `back` deciphers, every full block of the buffer; the bytes after them are kept. 1 where the key is not of a
