@@ -3,3 +3,4 @@ pub mod AloneLaws
 pub mod Undo
 pub mod PassLaws
 pub mod OneBlock
+pub mod Examples

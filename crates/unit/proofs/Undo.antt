@@ -64,13 +64,13 @@ module _ (f g : List ℕ → List ℕ) (u : Undoes f g) where
   pub all_xts_blocks : {T : List ℕ} → Block T → (Ps : List (List ℕ)) → AllBlocks Ps → AllBlocks (xts_blocks f T Ps)
   unfolding xts_blocks
   all_xts_blocks h_t [] k = tt
-  all_xts_blocks {T} h_t (P ∷ Ps) k = (block_xts_block h_t k.0, all_xts_blocks (block_double T) Ps k.1)
+  all_xts_blocks {T} h_t (P ∷ Ps) k = (block_xts_block h_t k.0, all_xts_blocks {T = double T} (block_double T) Ps k.1)
 
   xts_blocks_undone : {T : List ℕ} → Block T → (Ps : List (List ℕ)) → AllBlocks Ps → xts_blocks g T (xts_blocks f T Ps) ≡ Ps
   unfolding xts_blocks
   xts_blocks_undone h_t [] k = refl
   xts_blocks_undone {T} h_t (P ∷ Ps) k =
-      ap₂ (λ (x : List ℕ) (xs : List (List ℕ)). x ∷ xs) (xts_block_undone h_t k.0) (xts_blocks_undone (block_double T) Ps k.1)
+      ap₂ (λ (x : List ℕ) (xs : List (List ℕ)). x ∷ xs) (xts_block_undone h_t k.0) (xts_blocks_undone {T = double T} (block_double T) Ps k.1)
 
   -- ---- stealing, of a full block P and fewer than 16 bytes s
 

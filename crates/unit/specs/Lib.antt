@@ -1,3 +1,2 @@
--- A data unit under XTS (IEEE 1619-2007), over any block function and tweak, with worked examples.
+-- A data unit under XTS (IEEE 1619-2007), over any block function and tweak.
 pub mod Unit
-pub mod Examples

@@ -3,6 +3,8 @@
 // `unit` and `under` ensure the definitions of `specs/Unit.antt`, where the standard's steps stand over any block function. That a unit is undone by
 // the other direction, stealing included, and keeps its length is proved once over any two functions that undo each other (`proofs/Undo`); that a block
 // that can be read alone needs no other, in `proofs/OneBlock`.
+#![tactic(auto)]
+
 ghost use Rattle.std.specs.Prelude.{◌≡◌, ◌⊎◌, ◌≤◌, ◌<◌, length, take, drop};
 ghost use Rattle.block.specs.Blocks.{full, on_blocks};
 ghost use Rattle.block.specs.Double.{doubles};
