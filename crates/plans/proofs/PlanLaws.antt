@@ -322,7 +322,8 @@ module _ (c : ℕ) (r : ℕ → List ℕ) (each : (k : ℕ) → k < c → sound 
       ≡ guard (eqb n 0) SheetZero
       (guard (bad_length l) TextLength
       (guard (absent c r n) NoSheet
-      (guard (not (eqb v (rev (r (find_by c r n))))) OtherRevision (guard (eqb (rev (r (find_by c r n))) greatest_revision) LastRevision (At (find_by c r n))))))
+      (guard (not (eqb v (rev (r (find_by c r n))))) OtherRevision
+      (guard (eqb (rev (r (find_by c r n))) greatest_revision) LastRevision (At (find_by c r n))))))
   unfolding revise_from revise_at_plan
   revise_sound n v l =
       past (eqb n 0) SheetZero _ _
