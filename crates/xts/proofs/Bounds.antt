@@ -103,6 +103,18 @@ module _ (k n : ℕ) where
   pub taken_0 : number k n ≡ 0 → (key_taken k ≡ true) × (16 ≤ n)
   taken_0 e = let t = at_0 (key_taken k) (bad_unit n) (sym tests ∙ e) in (t.0, (unit_good n t.1).0)
 
+  -- the refusals part by part, by which the tactics find each refused return of `tested`, whatever the numbers are that the code tests against
+  pub number_by_key : key_taken k ≡ false → number k n ≡ 15
+  number_by_key e = by_tests false (bad_unit n) e refl
+
+  pub number_below : key_taken k ≡ true → n < 16 → number k n ≡ 16
+  number_below e h = by_tests true true e (unit_refused n (inl h))
+
+  pub number_above : key_taken k ≡ true → 65536 < n → number k n ≡ 16
+  number_above e h = by_tests true true e (unit_refused n (inr h))
+
+pub ruleset refusals = (number_by_key, number_below, number_above)
+
 -- ---- the number of the call for block j: after these two tests, whether it can be read alone
 
 abbrev picked_block : Bool → Bool → Bool → ℕ

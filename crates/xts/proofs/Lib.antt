@@ -4,3 +4,5 @@ pub mod NumberLaws
 pub mod KeyLaws
 pub mod Ladder
 pub mod Promise
+pub mod Determined
+pub mod Examples

@@ -4,6 +4,8 @@
 // `encipher` and `decipher` take any key, number and unit and refuse with 15 and 16; `block_alone` deciphers a single block, and refuses with 17 one
 // that can't be read alone. What is proved of every unit is in `proofs/Promise.antt`: the length is kept, each direction undoes the other, and a block
 // that is read alone is that block of the deciphered unit.
+#![tactic(auto)]
+
 ghost use Rattle.std.specs.Prelude.{true, false, ◌≡◌, ◌≤◌, length, replicate};
 ghost use Rattle.numbers.specs.Numbers.{answer_paper};
 ghost use Rattle.xts.specs.Xts.{key_taken, number, number_block, tweak, xts, block_under};
@@ -55,6 +57,7 @@ pub fn block_alone(key: &[u8], number: u64, unit: &[u8], k: u64) -> Single
 }
 
 // 02, order 3: the key's length is tested first, then the unit's.
+#[tactic(auto, using(crate::proofs::Bounds::refusals))]
 pub fn tested(key: usize, unit: usize) -> Answer
     ensures { answer_paper result ≡ number key unit }
 {
