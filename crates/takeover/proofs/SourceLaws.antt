@@ -15,7 +15,8 @@ use Rattle.numbers.specs.declared.Answer.{Answer}
 use Rattle.numbers.specs.declared.Answer.TheVariants as answer
 use Rattle.numbers.specs.declared.Refusal.{Refusal}
 use Rattle.numbers.specs.declared.Refusal.TheVariants.{XtsKeyLength, UnitLength}
-use Rattle.numbers.specs.Numbers.{paper, answer_paper, paper_apart}
+use Rattle.numbers.specs.Numbers.{paper, answer_paper}
+use Rattle.numbers.proofs.NumberLaws.{paper_apart}
 use Rattle.records.specs.Record.{text_most}
 use Rattle.plans.specs.declared.Plan.{Plan}
 use Rattle.plans.specs.declared.Plan.TheVariants.{Refuse, At}
@@ -97,7 +98,8 @@ module _ (o w s : List ℕ) (n : ℕ) (t : List ℕ) (long : text_most < length 
 
   -- what add answers and leaves is that of any other text of the length
   pub too_long : (t' : List ℕ) → length t' ≡ length t
-      → (add_answer (add_plan o w s n t) ≡ add_answer (add_plan o w s n t')) × (add_store w s n t (add_plan o w s n t) ≡ add_store w s n t' (add_plan o w s n t'))
+      → (add_answer (add_plan o w s n t) ≡ add_answer (add_plan o w s n t'))
+      × (add_store w s n t (add_plan o w s n t) ≡ add_store w s n t' (add_plan o w s n t'))
   too_long t' e =
       let same : add_plan o w s n t ≡ add_plan o w s n t' = add_by_length o w s n t t' (sym e) in
       (ap add_answer same, plan_refused (add_plan o w s n t) refl t' ∙ ap (add_store w s n t') same)

@@ -2,6 +2,8 @@
 //
 // Contracts cite what the conversion comes to (`specs/Sources.antt`), a refusal of its own or a text, and what the store's calls say of that
 // (`store`, specs/Conversions).
+#![tactic(auto)]
+
 ghost use Rattle.std.specs.Prelude.{◌≡◌, ◌≤◌, length};
 ghost use Rattle.records.specs.Record.{text_most};
 ghost use Rattle.store.specs.Conversions.{ConvertCalled};
