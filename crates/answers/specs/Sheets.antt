@@ -1,9 +1,8 @@
 -- What the store's calls for C promise: the number, every byte of each lent slice and the value behind each pointer afterwards, for every
--- input; and that the promise determines them. What a call answers is the store's own answer (`Rattle.store`, specs/Calls), read off here
--- as numbers: a value that a call does not give stays as it was.
+-- input. That the promise determines them is proved in proofs/Determined. What a call answers is the store's own answer (`Rattle.store`,
+-- specs/Calls), read off here as numbers: a value that a call does not give stays as it was.
 -- Assumes nothing.
 use Rattle.std.specs.Prelude.{◌≡◌, List, ℕ, length}
-use Rattle.std.proofs.Common.{sym, ◌∙◌}
 use Rattle.numbers.specs.Numbers.{paper}
 use Rattle.checking.specs.declared.Checked.{Checked}
 use Rattle.checking.specs.declared.Checked.TheVariants as checked
@@ -72,12 +71,6 @@ CheckedForC s f u r c o w n f' u' r' c' o' w' =
     × (o' ≡ old_or o (check_answer s))
     × (w' ≡ new_or w (check_answer s))
 
-pub check_determined : (s : List ℕ) (f u r c o w n f' u' r' c' o' w' m f'' u'' r'' c'' o'' w'' : ℕ)
-    → CheckedForC s f u r c o w n f' u' r' c' o' w' → CheckedForC s f u r c o w m f'' u'' r'' c'' o'' w''
-    → (n ≡ m) × (f' ≡ f'') × (u' ≡ u'') × (r' ≡ r'') × (c' ≡ c'') × (o' ≡ o'') × (w' ≡ w'')
-check_determined s f u r c o w n f' u' r' c' o' w' m f'' u'' r'' c'' o'' w'' p q =
-    (p.0 ∙ sym q.0, p.1 ∙ sym q.1, p.2 ∙ sym q.2, p.3 ∙ sym q.3, p.4 ∙ sym q.4, p.5 ∙ sym q.5, p.6 ∙ sym q.6)
-
 -- ---- read: sheet i into the buffer b; the length and the revision behind two pointers
 
 abbrev pub read_number : Text → ℕ
@@ -99,10 +92,6 @@ ReadForC o w s i b l v n b' l' v' =
     × (l' ≡ length_or l (read_answer s (read_plan o w s i (length b))))
     × (v' ≡ seen_or v (read_answer s (read_plan o w s i (length b))))
 
-pub read_determined : (o w s : List ℕ) (i : ℕ) (b : List ℕ) (l v n m : ℕ) (a c : List ℕ) (x y x' y' : ℕ)
-    → ReadForC o w s i b l v n a x y → ReadForC o w s i b l v m c x' y' → (n ≡ m) × (a ≡ c) × (x ≡ x') × (y ≡ y')
-read_determined o w s i b l v n m a c x y x' y' p q = (p.0 ∙ sym q.0, p.1 ∙ sym q.1, p.2 ∙ sym q.2, p.3 ∙ sym q.3)
-
 -- ---- add and revise: the revision behind a pointer
 
 abbrev pub stored_number : Stored → ℕ
@@ -119,36 +108,20 @@ AddForC o w s i t v n s' v' =
     × (s' ≡ add_store w s i t (add_plan o w s i t))
     × (v' ≡ revision_or v (add_answer (add_plan o w s i t)))
 
-pub add_determined : (o w s : List ℕ) (i : ℕ) (t : List ℕ) (v n m : ℕ) (a b : List ℕ) (x y : ℕ)
-    → AddForC o w s i t v n a x → AddForC o w s i t v m b y → (n ≡ m) × (a ≡ b) × (x ≡ y)
-add_determined o w s i t v n m a b x y p q = (p.0 ∙ sym q.0, p.1 ∙ sym q.1, p.2 ∙ sym q.2)
-
 -- a sheet from elsewhere, which comes to the source x before add's own tests (`store`, specs/Conversions)
 abbrev pub ConvertForC : (o w s : List ℕ) (i : ℕ) (x : Source) (v : ℕ) (n : ℕ) (s' : List ℕ) (v' : ℕ) → Type 0
 ConvertForC o w s i x v n s' v' =
     (n ≡ stored_number (convert_answer o w s i x)) × (s' ≡ convert_store o w s i x) × (v' ≡ revision_or v (convert_answer o w s i x))
 
-pub convert_determined : (o w s : List ℕ) (i : ℕ) (x : Source) (v n m : ℕ) (a b : List ℕ) (y z : ℕ)
-    → ConvertForC o w s i x v n a y → ConvertForC o w s i x v m b z → (n ≡ m) × (a ≡ b) × (y ≡ z)
-convert_determined o w s i x v n m a b y z p q = (p.0 ∙ sym q.0, p.1 ∙ sym q.1, p.2 ∙ sym q.2)
-
 -- from the data unit u with number d, under the XTS key k
 abbrev pub AddXtsForC : (k : List ℕ) (d : ℕ) (u o w s : List ℕ) (i v : ℕ) (n : ℕ) (s' : List ℕ) (v' : ℕ) → Type 0
 AddXtsForC k d u o w s i v n s' v' = ConvertForC o w s i (xts_source k d u) v n s' v'
-
-pub add_xts_determined : (k : List ℕ) (d : ℕ) (u o w s : List ℕ) (i v n m : ℕ) (a b : List ℕ) (y z : ℕ)
-    → AddXtsForC k d u o w s i v n a y → AddXtsForC k d u o w s i v m b z → (n ≡ m) × (a ≡ b) × (y ≡ z)
-add_xts_determined k d u o w s i v n m a b y z p q = (p.0 ∙ sym q.0, p.1 ∙ sym q.1, p.2 ∙ sym q.2)
 
 abbrev pub ReviseForC : (o w s : List ℕ) (i seen : ℕ) (t : List ℕ) (v : ℕ) (n : ℕ) (s' : List ℕ) (v' : ℕ) → Type 0
 ReviseForC o w s i seen t v n s' v' =
     (n ≡ stored_number (revise_answer s (revise_plan o w s i seen t)))
     × (s' ≡ revise_store w s i t (revise_plan o w s i seen t))
     × (v' ≡ revision_or v (revise_answer s (revise_plan o w s i seen t)))
-
-pub revise_determined : (o w s : List ℕ) (i seen : ℕ) (t : List ℕ) (v n m : ℕ) (a b : List ℕ) (x y : ℕ)
-    → ReviseForC o w s i seen t v n a x → ReviseForC o w s i seen t v m b y → (n ≡ m) × (a ≡ b) × (x ≡ y)
-revise_determined o w s i seen t v n m a b x y p q = (p.0 ∙ sym q.0, p.1 ∙ sym q.1, p.2 ∙ sym q.2)
 
 -- ---- remove
 
@@ -158,9 +131,6 @@ removed_number (removed.Refused x) = paper x
 
 abbrev pub RemoveForC : (s : List ℕ) (i : ℕ) (n : ℕ) (s' : List ℕ) → Type 0
 RemoveForC s i n s' = (n ≡ removed_number (remove_answer (remove_plan s i))) × (s' ≡ remove_store s (remove_plan s i))
-
-pub remove_determined : (s : List ℕ) (i n m : ℕ) (a b : List ℕ) → RemoveForC s i n a → RemoveForC s i m b → (n ≡ m) × (a ≡ b)
-remove_determined s i n m a b p q = (p.0 ∙ sym q.0, p.1 ∙ sym q.1)
 
 -- ---- step: the job's place and the outcome behind two pointers, or the place in a job
 
@@ -185,7 +155,3 @@ StepForC o w s k c n s' k' c' =
     × (s' ≡ step_store o w s (step_plan o w s k))
     × (k' ≡ place_after k (step_answer s (step_plan o w s k)))
     × (c' ≡ outcome_or c (step_answer s (step_plan o w s k)))
-
-pub step_determined : (o w s : List ℕ) (k c n m : ℕ) (a b : List ℕ) (x y x' y' : ℕ)
-    → StepForC o w s k c n a x y → StepForC o w s k c m b x' y' → (n ≡ m) × (a ≡ b) × (x ≡ x') × (y ≡ y')
-step_determined o w s k c n m a b x y x' y' p q = (p.0 ∙ sym q.0, p.1 ∙ sym q.1, p.2 ∙ sym q.2, p.3 ∙ sym q.3)

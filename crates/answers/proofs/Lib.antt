@@ -1,0 +1,2 @@
+-- The laws that this crate's promises are known by.
+pub mod Determined
