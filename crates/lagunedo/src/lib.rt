@@ -1,5 +1,7 @@
 // The calls for C: thin, over numbers and byte slices. Each answers 0, or 01's number of the refusal, and its contract gives the
 // number and every byte of each lent slice afterwards, for every input. `host/include/lagunedo.h` is their manual.
+#![tactic(auto)]
+
 ghost use Rattle.std.specs.Prelude.{true, false};
 ghost use Rattle.lagunedo.specs.Calls.{AesCalled, Eme2Called};
 // The step over a job that is lent.

@@ -25,13 +25,7 @@ pub fn lagunedo_xts_decipher(key: &[u8], number: u64, unit: &mut [u8]) -> u32
 }
 
 // Block k of the unit, deciphered by itself; 15, 16, 17.
-pub fn lagunedo_xts_block(
-    key: &[u8],
-    number: u64,
-    unit: &[u8],
-    k: u64,
-    block: &mut [u8; 16],
-) -> u32
+pub fn lagunedo_xts_block(key: &[u8], number: u64, unit: &[u8], k: u64, block: &mut [u8; 16]) -> u32
     ensures { XtsBlockCalled key.now number unit.now k block.old result block.new }
 {
     let a = block_values(key, number, unit, k, *block);
@@ -41,6 +35,7 @@ pub fn lagunedo_xts_block(
 }
 
 // What the call for block k gives; `before` stays if it is refused.
+#[tactic(auto, using(crate::proofs::XtsLaws::block_given, crate::proofs::XtsLaws::block_kept))]
 fn block_values(key: &[u8], number: u64, unit: &[u8], k: u64, before: [u8; 16]) -> BlockValues
     ensures { XtsBlockCalled key.now number unit.now k before result.number result.block }
 {
