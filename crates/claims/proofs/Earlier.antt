@@ -1,7 +1,7 @@
 -- 02, order 1: a store already written keeps its meaning. If no slot of it was faulty by the rule before, check answers the five counts, which are read
 -- off number and mark as before, and the plain list is the one that it was. Such a store is there.
 -- Assumes nothing.
-use mathlib.Core.Path.{◌≡◌, refl, sym, ap, ap₂, ◌∙◌}
+use mathlib.Core.Path.{◌≡◌, refl, sym, ap, ◌∙◌}
 use mathlib.Core.Bool.{Bool, true, false, cond, not, ◌&&◌, ◌||◌}
 use mathlib.Core.List.{List}
 use Prim.Native.Nat.{ℕ, ◌<◌}

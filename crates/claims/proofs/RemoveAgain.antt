@@ -8,7 +8,6 @@ use Prim.Native.Nat.{ℕ, ◌<◌}
 use native.Mathlib.Omega.{arith}
 use borrow.Author.Tests.{eqb-true, eqb-false}
 use lib.Dec.{eqb}
-use Rattle.block.specs.Bytes.{Bytes}
 use Rattle.numbers.specs.declared.Refusal.TheVariants.{NoSheet}
 use Rattle.records.specs.Record.{num}
 use Rattle.slots.specs.Slots.{slots, slot, put, emptied, bad_size, find}

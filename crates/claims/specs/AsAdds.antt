@@ -1,7 +1,7 @@
 -- 02, conversions: the events with an add in the place of each conversion that comes to a text, and those that are refused before that left out; and the
 -- answers of these with the refusals put back.
 -- Assumes nothing.
-use Rattle.std.specs.Prelude.{List, [], ◌∷◌, ℕ}
+use Rattle.std.specs.Prelude.{List, [], ◌∷◌}
 use Rattle.store.specs.declared.Stored.TheVariants.{Refused}
 use Rattle.store.specs.Conversions.{refuses, gives}
 use Rattle.claims.specs.Machine.{Event, reading, adding, converting, revising, removing, stepping, Answer, of_stored}
