@@ -86,7 +86,8 @@ module _ (o w : List ℕ) (keys : bad_keys o w ≡ false) (bo : Bytes o) (bw : B
       let c = convert_says o w once 1 bo bw g.bytes e in
       let twice : slot (first_slots o w 2 two_clear) 1 ≡ rekeyed o w once 1 =
       ap (λ (x : List ℕ). slot x 1) (leaves_it once g 1 e) ∙ slot_put once 1 c.within (rekeyed o w once 1) c.whole in
-      let q : slot (first_slots o w (slots two_clear) two_clear) 1 ≡ slot two_clear 1 = claim two_clear sound_two.bytes 0 1 (λ r. let y : ⊥ = omega arith in y) in
+      let q : slot (first_slots o w (slots two_clear) two_clear) 1 ≡ slot two_clear 1 =
+      claim two_clear sound_two.bytes 0 1 (λ r. let y : ⊥ = omega arith in y) in
       let p : rekeyed o w once 1 ≡ clear 2 = sym twice ∙ sym (ap (λ (n : ℕ). slot (first_slots o w n two_clear) 1) two_slots) ∙ q ∙ slot_1 in
       let m : mark (rekeyed o w once 1) ≡ 2 = mark_sheet w (num (slot once 1)) (rev (slot once 1)) (text_of o w (slot once 1)) in
       let y : ⊥ = omega (arith, ap mark p, mark_clear 2) in

@@ -107,7 +107,8 @@ module _ (n r : ℕ) (t : List ℕ) (z : n ≡ 0 → ⊥) where
       let y : m ≡ n → ⊥ = λ q. d (revision_of (at l k) + 1) q refl in
       holds_set l k a.within (holding m (revision_of (at l k) + 1) u) (λ q. y (sym a.number ∙ q)) y c
 
-  holds_remove : (l : List Place) → Holds n r t l → (m : ℕ) (p : Plan) → remove_in l m ≡ p → (m ≡ n → gone p ≡ removed.Done → ⊥) → Holds n r t (after_remove l p)
+  holds_remove : (l : List Place) → Holds n r t l
+      → (m : ℕ) (p : Plan) → remove_in l m ≡ p → (m ≡ n → gone p ≡ removed.Done → ⊥) → Holds n r t (after_remove l p)
   holds_remove l c m (Refuse x) e d = c
   holds_remove l c m (At k) e d =
       let a = removes_at l m k e in
