@@ -1,7 +1,7 @@
 # make        proves what changed of the library, the listing and demand 3, builds the library for C, the listing and the desk, and runs the
 #             listing on 01's example
 # make check  for daily work: what changed is proved again, then every program and every test of the host is run; no edit that must fail
-# make test   the whole gate: every proof from nothing, every edit that must fail, every program, and the host's tests
+# make test   the whole gate: every proof, every edit that must fail, every program, and the host's tests
 # make bench  the benchmark beside other people's AES, written into docs/SPEED.md and docs/speed.svg (it is no test)
 # make bench-versions BEFORE=FOLDER  the library beside an earlier build of it, whose archives stand in the folder (host/peers/versions)
 # make fuzz   the fuzz target under libFuzzer, FUZZ_RUNS scripts of calls (host/fuzz.mk)
