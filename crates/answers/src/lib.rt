@@ -10,7 +10,7 @@ use checking::Checked;
 use numbers::number;
 use store::{Outcome, Removed, Stepped, Stored, Text};
 
-#[derive(Drop)]
+#[derive(Clone, Copy)]
 pub struct CheckValues {
     pub number: u32,
     pub fault: u32,
@@ -21,20 +21,20 @@ pub struct CheckValues {
     pub new: u32,
 }
 
-#[derive(Drop)]
+#[derive(Clone, Copy)]
 pub struct ReadValues {
     pub number: u32,
     pub length: u32,
     pub revision: u32,
 }
 
-#[derive(Drop)]
+#[derive(Clone, Copy)]
 pub struct StoreValues {
     pub number: u32,
     pub revision: u32,
 }
 
-#[derive(Drop)]
+#[derive(Clone, Copy)]
 pub struct StepValues {
     pub number: u32,
     pub place: usize,

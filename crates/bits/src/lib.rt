@@ -14,7 +14,7 @@ mod turn;
 pub use turn::{gather, gather_block, merged, shifted, spread, spread_block, word};
 
 // Bit i of 32 bytes in word i.
-#[derive(Drop)]
+#[derive(Clone, Copy)]
 pub struct BitPlanes {
     pub p0: u32,
     pub p1: u32,

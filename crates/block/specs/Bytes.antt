@@ -2,7 +2,7 @@
 -- Assumes nothing.
 use Rattle.std.specs.Prelude.{◌≡◌, ℕ, ◌<◌, List, length, slice_index}
 
--- every element is a byte; past the end `get_or` gives 0, which is one
+-- every element is a byte; past the end `slice_index` gives 0, which is one
 pub record Bytes (l : List ℕ) : Type 0 where
   pub below : (i : ℕ) → slice_index l i < 256
 

@@ -11,7 +11,7 @@ use numbers::Refusal;
 use slots::{bad_size, count, number_at, record_at};
 
 // What check answers: the five counts of a sound store, or the lowest faulty slot.
-#[derive(Drop)]
+#[derive(Clone, Copy)]
 pub enum Checked {
     Counts {
         used: u32,

@@ -16,7 +16,7 @@ use reading::read_full;
 use std::io;
 
 // How many bytes a run of hex digits gave, and where it ended.
-#[derive(Drop)]
+#[derive(Clone, Copy)]
 struct Run {
     len: usize,
     next: usize,

@@ -3,7 +3,7 @@ ghost use Rattle.answers.specs.Sheets.{StepForC};
 
 // The rekeying job: the place that its next step works on. A new copy starts at 0.
 #[repr(C)]
-#[derive(Drop)]
+#[derive(Clone, Copy)]
 pub struct Job {
     pub place: usize,
 }

@@ -4,7 +4,7 @@ ghost use Rattle.lagunedo.specs.Calls.{XtsCalled, XtsBlockCalled};
 
 use numbers::{Answer, answer_number, number as number_of};
 
-#[derive(Drop)]
+#[derive(Clone, Copy)]
 struct BlockValues {
     number: u32,
     block: [u8; 16],

@@ -8,7 +8,7 @@ ghost use Rattle.std.specs.Prelude.{◌≡◌};
 ghost use Rattle.numbers.specs.Numbers.{paper, answer_paper};
 
 // 01's 1 to 14, in their order, then 02's. Of AES alone the message is the block.
-#[derive(Drop)]
+#[derive(Clone, Copy)]
 pub enum Refusal {
     KeyLength,
     MessageLength,
@@ -30,7 +30,7 @@ pub enum Refusal {
 }
 
 // What a call answers that gives nothing beside its number.
-#[derive(Drop)]
+#[derive(Clone, Copy)]
 pub enum Answer {
     Done,
     Refused(Refusal),

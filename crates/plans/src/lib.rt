@@ -15,7 +15,7 @@ pub use ladders::{
 use numbers::Refusal;
 
 // What a ladder comes to: a refusal, or the slot to work on.
-#[derive(Drop)]
+#[derive(Clone, Copy)]
 pub enum Plan {
     Refuse(Refusal),
     At(usize),

@@ -12,7 +12,7 @@ pub use show::{print, print_digest, print_field, print_kept, print_store};
 use std::io;
 
 // A line of the script: its fourth letter, and its first four numbers, 0 where there are fewer.
-#[derive(Drop)]
+#[derive(Clone, Copy)]
 pub struct Line {
     pub kind: u8,
     pub a: usize,
@@ -22,7 +22,7 @@ pub struct Line {
 }
 
 // A number, and the place after it.
-#[derive(Drop)]
+#[derive(Clone, Copy)]
 struct Digits {
     value: usize,
     next: usize,

@@ -17,27 +17,27 @@ pub use stepping::{step_at, step_slot};
 pub use writing::{add, remove, revise};
 
 // What read answers.
-#[derive(Drop)]
+#[derive(Clone, Copy)]
 pub enum Text {
     Read { length: u32, revision: u32 },
     Refused(Refusal),
 }
 
 // What add and revise answer: the revision now stored.
-#[derive(Drop)]
+#[derive(Clone, Copy)]
 pub enum Stored {
     Revision(u32),
     Refused(Refusal),
 }
 
-#[derive(Drop)]
+#[derive(Clone, Copy)]
 pub enum Removed {
     Done,
     Refused(Refusal),
 }
 
 // The outcomes of a step, in 01's order.
-#[derive(Drop)]
+#[derive(Clone, Copy)]
 pub enum Outcome {
     Done,
     Free,
@@ -47,7 +47,7 @@ pub enum Outcome {
 }
 
 // What a step answers: its outcome and the job's place afterwards.
-#[derive(Drop)]
+#[derive(Clone, Copy)]
 pub enum Stepped {
     Went { outcome: Outcome, place: usize },
     Refused(Refusal),

@@ -1,5 +1,5 @@
 -- IEEE 1619-2007, 5.3 and 5.4: a data unit under XTS, over a block function f (AES-enc under Key1, or to decipher AES-dec), the tweak T of block 0 and
--- the direction, in the standard's variables. P0 to Pm_1 are the m full blocks, and Pm the bytes after them, fewer than 16: none where the length is
+-- the direction, in the standard's variables. P0 to Pm-1 are the m full blocks, and Pm the bytes after them, fewer than 16: none where the length is
 -- a multiple of 16. To decipher, P and C change places.
 -- Assumes nothing.
 use Rattle.std.specs.Prelude.{Bool, cond, List, [], ◌∷◌, ◌++◌, ℕ, ◌-◌, ◌*◌, ◌/◌, ◌%◌, eqb, length, take, drop}
@@ -36,7 +36,7 @@ module _ (f : List ℕ → List ℕ) where
     abbrev pub PP : List ℕ  -- Pm, filled up with them
     PP = Pm ++ CP
 
-    unfoldable pub stolen : List ℕ  -- Cm_1, then Cm
+    unfoldable pub stolen : List ℕ  -- Cm-1, then Cm
     stolen = xts_block second PP ++ Cm
 
   -- the bytes after the blocks that can be read alone: none, or the last full block, of tweak T, and the bytes after it. Enciphering

@@ -14,7 +14,7 @@ ghost use Rattle.xts.specs.Calls.{Called, BlockCalled};
 use numbers::{Answer, Refusal};
 
 // What the call for a single block answers, and the block: zeros where it is refused.
-#[derive(Drop)]
+#[derive(Clone, Copy)]
 pub struct Single {
     pub answer: Answer,
     pub block: [u8; 16],
