@@ -70,7 +70,7 @@ module _ (o w : List ℕ) (ko : Key o) (kw : Key w) where
   pub others_kept : KeepsOthers (store_step o w)
   others_kept = keeps_others o w ko.0 kw.0
 
-  -- ---- the idle steps are shut out: the one that converts in the first step and then only moves the place, by the last_slot claim; the one that
+  -- ---- the idle steps are shut out: the one that converts in the first step and then only moves the place, by the last-slot claim; the one that
   -- converts every slot at once, by the step's own rule. Each is shown on a store of two slots (TwoClear: two_clear)
 
   pub only_the_first_shut_out : LastSlotClaim o w (only_the_first o w) → ⊥

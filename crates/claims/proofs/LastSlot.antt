@@ -1,4 +1,4 @@
--- Demand 3, second part: the last_slot claim, of 01's step.
+-- Demand 3, second part: the last-slot claim, of 01's step.
 -- Assumes nothing.
 use mathlib.Core.Path.{◌≡◌, refl, sym, ap, ◌∙◌, subst}
 use mathlib.Core.Bool.{Bool, true, false, cond, not, ◌&&◌, ◌||◌, or-true}

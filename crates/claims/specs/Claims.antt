@@ -37,7 +37,7 @@ steps_of c (revising n v t ∷ es) = steps_of c es
 steps_of c (removing n ∷ es) = steps_of c es
 steps_of c (stepping d ∷ es) = cond (eqb c d) (suc (steps_of c es)) (steps_of c es)
 
--- The last_slot claim, of any step: a copy that stood at place 0 anywhere in the events has since made as many steps as there are slots.
+-- The last-slot claim, of any step: a copy that stood at place 0 anywhere in the events has since made as many steps as there are slots.
 -- Its steps are counted, and not its place; whatever came between, and whatever comes later, no sheet is marked clear or old key.
 abbrev pub LastSlotClaim : List ℕ → List ℕ → Step → Type 0
 LastSlotClaim o w f =
