@@ -46,7 +46,7 @@ $(cat blue)" ]
     # So it is with a block.
     printf 'BELL\007 \377 \\ SIXTEEN' | head -c 16 >odd
     unit odd.unit disk32.key 7 odd
-    at_terminal odd.unit xts-block --xts-key disk32.key --unit 7 --block 0 "<odd.unit"
+    at_terminal /dev/null xts-block --xts-key disk32.key --unit 7 --block 0 "<odd.unit"
     check "a block is escaped" grep -qF 'BELL\x07 \xff \\ SIXTEE' seen
 
     # A text from the terminal itself: what is read is said, and end of input ends it.
