@@ -1,13 +1,11 @@
 -- No two refusals share a number, nor does one share that of a call that was not refused.
 -- Assumes nothing.
-use Rattle.std.specs.Prelude.{◌≡◌, refl, List, [], ◌∷◌, ℕ, zero, suc, get_or}
+use Rattle.std.specs.Prelude.{◌≡◌, refl, List, [], ◌∷◌, ℕ, zero, suc, get_or, Result, Ok, Err, ⊤}
 use Rattle.std.proofs.Common.{sym, ap, ◌∙◌}
 use Rattle.numbers.specs.declared.Refusal.{Refusal}
 use Rattle.numbers.specs.declared.Refusal.TheVariants.{KeyLength, MessageLength, DataLength, StoreLength, SheetZero, TextLength, NoSheet}
 use Rattle.numbers.specs.declared.Refusal.TheVariants.{OtherRevision, LastRevision, NoFreeSlot, SheetPresent, SlotUnsound, BufferLength, LengthChanged}
 use Rattle.numbers.specs.declared.Refusal.TheVariants.{XtsKeyLength, UnitLength, BlockNotAlone}
-use Rattle.numbers.specs.declared.Answer.{Answer}
-use Rattle.numbers.specs.declared.Answer.TheVariants.{Done, Refused}
 use Rattle.numbers.specs.Numbers.{answer_paper}
 
 -- every refusal, by its number less 1
@@ -32,31 +30,31 @@ refusals =
     ∷ BlockNotAlone
     ∷ []
 
-abbrev answer_of : ℕ → Answer
-answer_of zero = Done
-answer_of (suc n) = Refused (get_or refusals n LengthChanged)
+abbrev answer_of : ℕ → Result ⊤ Refusal
+answer_of zero = Ok tt
+answer_of (suc n) = Err (get_or refusals n LengthChanged)
 
-back : (a : Answer) → answer_of (answer_paper a) ≡ a
+back : (a : Result ⊤ Refusal) → answer_of (answer_paper a) ≡ a
 unfolding refusals
-back Done = refl
-back (Refused KeyLength) = refl
-back (Refused MessageLength) = refl
-back (Refused DataLength) = refl
-back (Refused StoreLength) = refl
-back (Refused SheetZero) = refl
-back (Refused TextLength) = refl
-back (Refused NoSheet) = refl
-back (Refused OtherRevision) = refl
-back (Refused LastRevision) = refl
-back (Refused NoFreeSlot) = refl
-back (Refused SheetPresent) = refl
-back (Refused SlotUnsound) = refl
-back (Refused BufferLength) = refl
-back (Refused LengthChanged) = refl
-back (Refused XtsKeyLength) = refl
-back (Refused UnitLength) = refl
-back (Refused BlockNotAlone) = refl
+back (Ok _) = refl
+back (Err KeyLength) = refl
+back (Err MessageLength) = refl
+back (Err DataLength) = refl
+back (Err StoreLength) = refl
+back (Err SheetZero) = refl
+back (Err TextLength) = refl
+back (Err NoSheet) = refl
+back (Err OtherRevision) = refl
+back (Err LastRevision) = refl
+back (Err NoFreeSlot) = refl
+back (Err SheetPresent) = refl
+back (Err SlotUnsound) = refl
+back (Err BufferLength) = refl
+back (Err LengthChanged) = refl
+back (Err XtsKeyLength) = refl
+back (Err UnitLength) = refl
+back (Err BlockNotAlone) = refl
 
 -- two answers with one number are equal
-pub paper_apart : (a b : Answer) → answer_paper a ≡ answer_paper b → a ≡ b
+pub paper_apart : (a b : Result ⊤ Refusal) → answer_paper a ≡ answer_paper b → a ≡ b
 paper_apart a b e = sym (back a) ∙ ap answer_of e ∙ back b

@@ -1,13 +1,11 @@
 -- 01, numbers returned in place of a result, and those of 02: the number of each refusal. That no two refusals share one is in proofs/NumberLaws.
 -- Assumes nothing.
-use Rattle.std.specs.Prelude.{ℕ, ◌≤◌}
+use Rattle.std.specs.Prelude.{ℕ, ◌≤◌, Result, Ok, Err, ⊤}
 use Rattle.std.proofs.Common.{arith}
 use Rattle.numbers.specs.declared.Refusal.{Refusal}
 use Rattle.numbers.specs.declared.Refusal.TheVariants.{KeyLength, MessageLength, DataLength, StoreLength, SheetZero, TextLength, NoSheet}
 use Rattle.numbers.specs.declared.Refusal.TheVariants.{OtherRevision, LastRevision, NoFreeSlot, SheetPresent, SlotUnsound, BufferLength, LengthChanged}
 use Rattle.numbers.specs.declared.Refusal.TheVariants.{XtsKeyLength, UnitLength, BlockNotAlone}
-use Rattle.numbers.specs.declared.Answer.{Answer}
-use Rattle.numbers.specs.declared.Answer.TheVariants.{Done, Refused}
 
 -- 01's table, and from 15 on 02's
 abbrev pub paper : Refusal → ℕ
@@ -30,9 +28,9 @@ paper UnitLength = 16
 paper BlockNotAlone = 17
 
 -- 0 if the call was not refused
-abbrev pub answer_paper : Answer → ℕ
-answer_paper Done = 0
-answer_paper (Refused x) = paper x
+abbrev pub answer_paper : Result ⊤ Refusal → ℕ
+answer_paper (Ok _) = 0
+answer_paper (Err x) = paper x
 
 -- no refusal has the number of a call that was not refused
 pub some_number : (x : Refusal) → 1 ≤ paper x
