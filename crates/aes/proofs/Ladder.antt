@@ -1,5 +1,6 @@
 -- Each way out of the calls, from the tests that lead there.
 -- Assumes nothing.
+use Rattle.std.specs.Prelude.{Err, Ok}
 use mathlib.Core.Path.{◌≡◌, sym, ap, ◌∙◌}
 use mathlib.Core.Bool.{Bool, true, false, cond, not}
 use mathlib.Core.List.{List, ◌++◌, append-nil}
@@ -11,7 +12,6 @@ use lib.ListN.{length, drop_of_length-le}
 use lib.Seq.{take_all}
 use Rattle.block.specs.Blocks.{block_at, with_block}
 use Rattle.numbers.specs.declared.Refusal.TheVariants.{KeyLength, MessageLength}
-use Rattle.numbers.specs.declared.Answer.TheVariants.{Done, Refused}
 use Rattle.schedule.specs.Size.{key_size, Nr}
 use Rattle.schedule.specs.KeyExpansion.{round_keys}
 use Rattle.cipher.specs.Cipher.{crypted}
@@ -25,7 +25,7 @@ module _ (back : Bool) (k b : List ℕ) where
   unfolding afterwards
   with_number n e = ap (λ (m : ℕ). cond (eqb m 0) (aes back k b) b) e
 
-  pub key_refused : key_size (length k) ≡ false → Called back k b (Refused KeyLength) b
+  pub key_refused : key_size (length k) ≡ false → Called back k b (Err KeyLength) b
   unfolding number
   key_refused e =
       let n : number k b ≡ 1 = ap (λ (t : Bool). cond (not t) 1 (cond (not (eqb (length b) 16)) 2 0)) e in
@@ -36,12 +36,12 @@ module _ (back : Bool) (k b : List ℕ) where
   unfolding number
   past_key e = ap (λ (t : Bool). cond (not t) 1 (cond (not (eqb (length b) 16)) 2 0)) e
 
-  pub block_refused : key_size (length k) ≡ true → (length b ≡ 16 → ⊥) → Called back k b (Refused MessageLength) b
+  pub block_refused : key_size (length k) ≡ true → (length b ≡ 16 → ⊥) → Called back k b (Err MessageLength) b
   block_refused e h =
       let n : number k b ≡ 2 = past_key e ∙ ap (λ (t : Bool). cond (not t) 2 0) (ne_eqb (length b) 16 h) in
       (sym n, sym (with_number 2 n))
 
-  pub done : key_size (length k) ≡ true → length b ≡ 16 → (s : List ℕ) → s ≡ aes back k b → Called back k b Done s
+  pub done : key_size (length k) ≡ true → length b ≡ 16 → (s : List ℕ) → s ≡ aes back k b → Called back k b (Ok tt) s
   done e h s p =
       let n : number k b ≡ 0 = past_key e ∙ ap (λ (t : Bool). cond (not t) 2 0) (eq-eqb (length b) 16 h) in
       (sym n, p ∙ sym (with_number 0 n))

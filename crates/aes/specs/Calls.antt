@@ -1,8 +1,8 @@
 -- 01, AES, and 01's numbers: the two calls on a lent block, and their refusals in order. That their promise determines them is in proofs/CallLaws.
 -- Assumes nothing.
-use Rattle.std.specs.Prelude.{Bool, cond, not, ◌≡◌, List, ℕ, eqb, length}
+use Rattle.std.specs.Prelude.{Bool, cond, not, ◌≡◌, List, ℕ, eqb, length, Result, ⊤}
 use Rattle.numbers.specs.declared.Refusal.TheVariants.{KeyLength, MessageLength}
-use Rattle.numbers.specs.declared.Answer.{Answer}
+use Rattle.numbers.specs.declared.Refusal.{Refusal}
 use Rattle.numbers.specs.Numbers.{paper, answer_paper}
 use Rattle.schedule.specs.Size.{key_size}
 use Rattle.aes.specs.Aes.{aes}
@@ -16,5 +16,5 @@ unfoldable pub afterwards : Bool → List ℕ → List ℕ → List ℕ
 afterwards back k b = cond (eqb (number k b) 0) (aes back k b) b
 
 -- what the calls promise of their answer and of the block afterwards
-abbrev pub Called : (back : Bool) (k b : List ℕ) (answer : Answer) (b' : List ℕ) → Type 0
+abbrev pub Called : (back : Bool) (k b : List ℕ) (answer : Result ⊤ Refusal) (b' : List ℕ) → Type 0
 Called back k b answer b' = (answer_paper answer ≡ number k b) × (b' ≡ afterwards back k b)

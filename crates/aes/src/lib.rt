@@ -10,36 +10,36 @@ ghost use Rattle.aes.specs.Calls.{Called};
 ghost use Rattle.std.specs.Prelude.{true, false};
 
 pub use cipher::{crypt, crypt_blocks};
-use numbers::{Answer, Refusal};
+use numbers::Refusal;
 pub use schedule::{key_setup, key_size, rounds_of};
 
 // Overwrites the block with its encipherment under the key.
-pub fn encipher(key: &[u8], block: &mut [u8]) -> Answer
+pub fn encipher(key: &[u8], block: &mut [u8]) -> Result<(), Refusal>
     ensures { Called false key.now block.old result block.new }
 {
     call(false, key, block)
 }
 
 // Overwrites the block with its decipherment under the key.
-pub fn decipher(key: &[u8], block: &mut [u8]) -> Answer
+pub fn decipher(key: &[u8], block: &mut [u8]) -> Result<(), Refusal>
     ensures { Called true key.now block.old result block.new }
 {
     call(true, key, block)
 }
 
 // 01, AES: the key is tested first, then the block, which is the message here.
-fn call(back: bool, key: &[u8], block: &mut [u8]) -> Answer
+fn call(back: bool, key: &[u8], block: &mut [u8]) -> Result<(), Refusal>
     ensures { Called back key.now block.old result block.new }
 {
     let n = key.len();
     if !key_size(n) {
-        return Answer::Refused(Refusal::KeyLength);
+        return Err(Refusal::KeyLength);
     }
     if block.len() != 16 {
-        return Answer::Refused(Refusal::MessageLength);
+        return Err(Refusal::MessageLength);
     }
     let keys = key_setup(key);
     let b = block::load(block, 0);
     block::put(block, 0, crypt(back, keys, rounds_of(n), b));
-    Answer::Done
+    Ok(())
 }

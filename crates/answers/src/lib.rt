@@ -7,7 +7,6 @@ ghost use Rattle.answers.specs.Sheets.{CheckedForC, ReadForC, AddForC, AddXtsFor
 ghost use Rattle.answers.specs.Sheets.{outcome_number, stored_number, revision_or};
 
 use checking::Checked;
-use numbers::number;
 use store::{Outcome, Removed, Stepped, Stored, Text};
 
 #[derive(Clone, Copy)]
@@ -68,7 +67,7 @@ pub fn check(
 {
     match checking::check(store) {
         Checked::Refused(x) => CheckValues {
-            number: number(x),
+            number: u32::from(x),
             fault,
             used,
             free,
@@ -117,7 +116,7 @@ pub fn read(
 {
     match store::read(old, new, store, sheet, text) {
         Text::Refused(x) => ReadValues {
-            number: number(x),
+            number: u32::from(x),
             length: l,
             revision: v,
         },
@@ -135,7 +134,7 @@ fn stored(a: Stored, v: u32) -> StoreValues
 {
     match a {
         Stored::Refused(x) => StoreValues {
-            number: number(x),
+            number: u32::from(x),
             revision: v,
         },
         Stored::Revision(revision) => StoreValues {
@@ -190,7 +189,7 @@ pub fn remove(store: &mut [u8], sheet: u32) -> u32
     ensures { RemoveForC store.old sheet result store.new }
 {
     match store::remove(store, sheet) {
-        Removed::Refused(x) => number(x),
+        Removed::Refused(x) => u32::from(x),
         Removed::Done => 0,
     }
 }
@@ -201,7 +200,7 @@ pub fn step(old: &[u8], new: &[u8], store: &mut [u8], place: usize, outcome: u32
 {
     match store::step_at(old, new, store, place) {
         Stepped::Refused(x) => StepValues {
-            number: number(x),
+            number: u32::from(x),
             place,
             outcome,
         },

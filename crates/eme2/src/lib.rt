@@ -8,17 +8,17 @@ ghost use Rattle.std.specs.Prelude.{true, false, ◌≡◌, ◌≤◌, length};
 ghost use Rattle.eme2.specs.Transform.{key_taken, eme2};
 ghost use Rattle.eme2.specs.Calls.{Called};
 
-use numbers::{Answer, Refusal};
+use numbers::Refusal;
 
 // Overwrites the message with its encipherment under the key and the associated data.
-pub fn encipher(key: &[u8], ad: &[u8], message: &mut [u8]) -> Answer
+pub fn encipher(key: &[u8], ad: &[u8], message: &mut [u8]) -> Result<(), Refusal>
     ensures { Called false key.now ad.now message.old result message.new }
 {
     call(false, key, ad, message)
 }
 
 // Overwrites the message with its decipherment under the key and the associated data.
-pub fn decipher(key: &[u8], ad: &[u8], message: &mut [u8]) -> Answer
+pub fn decipher(key: &[u8], ad: &[u8], message: &mut [u8]) -> Result<(), Refusal>
     ensures { Called true key.now ad.now message.old result message.new }
 {
     call(true, key, ad, message)
@@ -26,23 +26,23 @@ pub fn decipher(key: &[u8], ad: &[u8], message: &mut [u8]) -> Answer
 
 // 01, numbers: the key is tested first, then the message, then the associated data.
 #[tactic(auto, using(crate::proofs::Ladder::refusals))]
-fn call(back: bool, key: &[u8], ad: &[u8], message: &mut [u8]) -> Answer
+fn call(back: bool, key: &[u8], ad: &[u8], message: &mut [u8]) -> Result<(), Refusal>
     ensures { Called back key.now ad.now message.old result message.new }
 {
     if !key_taken(key) {
-        return Answer::Refused(Refusal::KeyLength);
+        return Err(Refusal::KeyLength);
     }
     if message.len() < 16 {
-        return Answer::Refused(Refusal::MessageLength);
+        return Err(Refusal::MessageLength);
     }
     if message.len() > 65536 {
-        return Answer::Refused(Refusal::MessageLength);
+        return Err(Refusal::MessageLength);
     }
     if ad.len() > 1024 {
-        return Answer::Refused(Refusal::DataLength);
+        return Err(Refusal::DataLength);
     }
     transform(back, key, ad, message);
-    Answer::Done
+    Ok(())
 }
 
 // Whether the key is 48 or 64 bytes: what is left of it before Key2 and Key3 is a key of AES.

@@ -11,7 +11,7 @@
 
 ghost use Rattle.std.specs.Prelude.{◌+◌, ◌≤◌, ◌<◌, length, IfOk};
 
-use numbers::{Answer, Refusal, answer_number};
+use numbers::{Refusal, answer_number};
 use reading::read_full;
 use std::io;
 
@@ -76,12 +76,12 @@ fn answer(rt: &impl Print, kind: u8, key: &[u8], block: &mut [u8]) -> io::Result
 fn set_up(rt: &impl Print, key: &[u8]) -> io::Result<()> {
     let n = key.len();
     if !aes::key_size(n) {
-        return print_number(rt, Answer::Refused(Refusal::KeyLength));
+        return print_number(rt, Err(Refusal::KeyLength));
     }
     let keys = aes::key_setup(key);
     let nr = aes::rounds_of(n);
     let last = keys[nr];
-    print_number(rt, Answer::Done)?;
+    print_number(rt, Ok(()))?;
     print_byte(rt, last[12])?;
     print_byte(rt, last[13])?;
     print_byte(rt, last[14])?;
@@ -125,7 +125,7 @@ fn look_up(back: bool, s: &mut [u8]) {
     }
 }
 
-fn print_number(rt: &impl Print, a: Answer) -> io::Result<()> {
+fn print_number(rt: &impl Print, a: Result<(), Refusal>) -> io::Result<()> {
     let n = answer_number(a);
     match n {
         0 => rt.write_all(b"0 "),

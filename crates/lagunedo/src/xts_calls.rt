@@ -2,7 +2,7 @@
 ghost use Rattle.std.specs.Prelude.{true, false};
 ghost use Rattle.lagunedo.specs.Calls.{XtsCalled, XtsBlockCalled};
 
-use numbers::{Answer, answer_number, number as number_of};
+use numbers::answer_number;
 
 #[derive(Clone, Copy)]
 struct BlockValues {
@@ -43,12 +43,12 @@ fn block_values(key: &[u8], number: u64, unit: &[u8], k: u64, before: [u8; 16]) 
     let x = a.answer;
     let b = a.block;
     match x {
-        Answer::Done => BlockValues {
+        Ok(()) => BlockValues {
             number: 0,
             block: b,
         },
-        Answer::Refused(y) => BlockValues {
-            number: number_of(y),
+        Err(y) => BlockValues {
+            number: u32::from(y),
             block: before,
         },
     }

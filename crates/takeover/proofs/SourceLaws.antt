@@ -1,5 +1,6 @@
 -- What a conversion comes to, by the answer of its tests; and that a text that is too long is refused by its length alone.
 -- Assumes nothing.
+use Rattle.std.specs.Prelude.{Ok, Err, Result, ⊤}
 use mathlib.Core.Path.{◌≡◌, refl, sym, ap, ap₂, ◌∙◌, subst}
 use mathlib.Core.Bool.{Bool, true, false, cond, not}
 use mathlib.Core.List.{List, [], ◌++◌}
@@ -11,8 +12,6 @@ use lib.Seq.{take_at}
 use borrow.Rule.Slice.PartMut.{put_mid}
 use Rattle.block.specs.Bytes.{Bytes}
 use Rattle.block.proofs.PartLaws.{part_changed}
-use Rattle.numbers.specs.declared.Answer.{Answer}
-use Rattle.numbers.specs.declared.Answer.TheVariants as answer
 use Rattle.numbers.specs.declared.Refusal.{Refusal}
 use Rattle.numbers.specs.declared.Refusal.TheVariants.{XtsKeyLength, UnitLength}
 use Rattle.numbers.specs.Numbers.{paper, answer_paper}
@@ -33,12 +32,12 @@ use Rattle.takeover.specs.Sources.{Taken, xts_source}
 -- ---- by the answer of the tests
 
 -- what a conversion comes to, with the text t if its tests refuse nothing
-abbrev pub comes_to : Answer → List ℕ → Source
-comes_to answer.Done t = gives t
-comes_to (answer.Refused x) t = refuses x
+abbrev pub comes_to : Result ⊤ Refusal → List ℕ → Source
+comes_to (Ok _) t = gives t
+comes_to (Err x) t = refuses x
 
-abbrev answered : Bool → Bool → Answer
-answered t b = cond (not t) (answer.Refused XtsKeyLength) (cond b (answer.Refused UnitLength) answer.Done)
+abbrev answered : Bool → Bool → Result ⊤ Refusal
+answered t b = cond (not t) (Err XtsKeyLength) (cond b (Err UnitLength) (Ok tt))
 
 abbrev kind : Source → ℕ
 kind (refuses x) = 0
@@ -68,7 +67,7 @@ module _ (k : List ℕ) (i : ℕ) (u : List ℕ) where
       ∙ ap (λ (y : Answer). comes_to y (xts true k i u)) (sym (paper_apart a (answered t b) (e ∙ paper_answered t b)))
 
   pub source_taken : Taken k u → xts_source k i u ≡ gives (xts true k i u)
-  source_taken e = source_answer answer.Done (sym e)
+  source_taken e = source_answer (Ok tt) (sym e)
 
   -- and then the call that deciphers leaves the text
   pub deciphered : Taken k u → afterwards true k i u ≡ xts true k i u
@@ -107,7 +106,7 @@ module _ (o w s : List ℕ) (n : ℕ) (t : List ℕ) (long : text_most < length 
 -- ---- the call, from what those that it makes ensure
 
 module _ (o w s : List ℕ) (n : ℕ) (k : List ℕ) (i : ℕ) (u : List ℕ) where
-  pub refused_so : (r : Answer) (x : Refusal) → answer_paper r ≡ number (length k) (length u) → r ≡ answer.Refused x
+  pub refused_so : (r : Answer) (x : Refusal) → answer_paper r ≡ number (length k) (length u) → r ≡ Err x
       → ConvertCalled o w s n (xts_source k i u) (Refused x) s
   refused_so r x e q =
       let c : xts_source k i u ≡ refuses x = source_answer k i u r e ∙ ap (λ (y : Answer). comes_to y (xts true k i u)) q in

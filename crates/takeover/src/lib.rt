@@ -9,7 +9,6 @@ ghost use Rattle.records.specs.Record.{text_most};
 ghost use Rattle.store.specs.Conversions.{ConvertCalled};
 ghost use Rattle.takeover.specs.Sources.{Taken, xts_source};
 
-use numbers::Answer;
 use records::TEXT_MOST;
 use store::{Stored, add};
 
@@ -29,8 +28,8 @@ pub fn add_xts(
 {
     let l = unit.len();
     match xts::tested(key.len(), l) {
-        Answer::Refused(x) => Stored::Refused(x),
-        Answer::Done => {
+        Err(x) => Stored::Refused(x),
+        Ok(()) => {
             if l > TEXT_MOST {
                 return add(old, new, store, sheet, unit);
             }

@@ -1,14 +1,14 @@
 -- The promises of the calls determine them.
 -- Assumes nothing.
-use Rattle.std.specs.Prelude.{Bool, ◌≡◌, List, ℕ}
+use Rattle.std.specs.Prelude.{Bool, ◌≡◌, List, ℕ, Result, ⊤}
 use Rattle.std.proofs.Common.{sym, ◌∙◌}
-use Rattle.numbers.specs.declared.Answer.{Answer}
+use Rattle.numbers.specs.declared.Refusal.{Refusal}
 use Rattle.numbers.proofs.NumberLaws.{paper_apart}
 use Rattle.xts.specs.declared.Single.{Single}
 use Rattle.xts.specs.Calls.{Called, BlockCalled}
 
 -- two answers that keep the promise are equal, and so are the bytes afterwards
-pub called_determined : (back : Bool) (k : List ℕ) (i : ℕ) (u : List ℕ) (a a' : Answer) (s s' : List ℕ)
+pub called_determined : (back : Bool) (k : List ℕ) (i : ℕ) (u : List ℕ) (a a' : Result ⊤ Refusal) (s s' : List ℕ)
     → Called back k i u a s → Called back k i u a' s' → (a ≡ a') × (s ≡ s')
 called_determined back k i u a a' s s' p q = (paper_apart a a' (p.0 ∙ sym q.0), p.1 ∙ sym q.1)
 

@@ -6,29 +6,29 @@
 // that is read alone is that block of the deciphered unit.
 #![tactic(auto)]
 
-ghost use Rattle.std.specs.Prelude.{true, false, ◌≡◌, ◌≤◌, length, replicate};
+ghost use Rattle.std.specs.Prelude.{true, false, ◌≡◌, ◌≤◌, length, replicate, Err};
 ghost use Rattle.numbers.specs.Numbers.{answer_paper};
 ghost use Rattle.xts.specs.Xts.{key_taken, number, number_block, tweak, xts, block_under};
 ghost use Rattle.xts.specs.Calls.{Called, BlockCalled};
 
-use numbers::{Answer, Refusal};
+use numbers::Refusal;
 
 // What the call for a single block answers, and the block: zeros where it is refused.
 #[derive(Clone, Copy)]
 pub struct Single {
-    pub answer: Answer,
+    pub answer: Result<(), Refusal>,
     pub block: [u8; 16],
 }
 
 // Overwrites the unit with its encipherment under the key and the unit's number.
-pub fn encipher(key: &[u8], number: u64, unit: &mut [u8]) -> Answer
+pub fn encipher(key: &[u8], number: u64, unit: &mut [u8]) -> Result<(), Refusal>
     ensures { Called false key.now number unit.old result unit.new }
 {
     call(false, key, number, unit)
 }
 
 // Overwrites the unit with its decipherment under the key and the unit's number.
-pub fn decipher(key: &[u8], number: u64, unit: &mut [u8]) -> Answer
+pub fn decipher(key: &[u8], number: u64, unit: &mut [u8]) -> Result<(), Refusal>
     ensures { Called true key.now number unit.old result unit.new }
 {
     call(true, key, number, unit)
@@ -41,15 +41,15 @@ pub fn block_alone(key: &[u8], number: u64, unit: &[u8], k: u64) -> Single
     let n = unit.len();
     let a = tested(key.len(), n);
     match a {
-        Answer::Refused(x) => no_block(x),
-        Answer::Done => {
+        Err(x) => no_block(x),
+        Ok(()) => {
             if k >= (unit::alone(n) as u64) {
                 return no_block(Refusal::BlockNotAlone);
             }
             let at = 16 * (k as usize);
             let b = block_under(key, number, k, block::load(unit, at));
             Single {
-                answer: Answer::Done,
+                answer: Ok(()),
                 block: b,
             }
         }
@@ -58,30 +58,30 @@ pub fn block_alone(key: &[u8], number: u64, unit: &[u8], k: u64) -> Single
 
 // 02, order 3: the key's length is tested first, then the unit's.
 #[tactic(auto, using(crate::proofs::Bounds::refusals))]
-pub fn tested(key: usize, unit: usize) -> Answer
+pub fn tested(key: usize, unit: usize) -> Result<(), Refusal>
     ensures { answer_paper result ≡ number key unit }
 {
     if !key_taken(key) {
-        return Answer::Refused(Refusal::XtsKeyLength);
+        return Err(Refusal::XtsKeyLength);
     }
     if unit < 16 {
-        return Answer::Refused(Refusal::UnitLength);
+        return Err(Refusal::UnitLength);
     }
     if unit > 65536 {
-        return Answer::Refused(Refusal::UnitLength);
+        return Err(Refusal::UnitLength);
     }
-    Answer::Done
+    Ok(())
 }
 
-fn call(back: bool, key: &[u8], number: u64, unit: &mut [u8]) -> Answer
+fn call(back: bool, key: &[u8], number: u64, unit: &mut [u8]) -> Result<(), Refusal>
     ensures { Called back key.now number unit.old result unit.new }
 {
     let a = tested(key.len(), unit.len());
     match a {
-        Answer::Refused(x) => Answer::Refused(x),
-        Answer::Done => {
+        Err(x) => Err(x),
+        Ok(()) => {
             transform(back, key, number, unit);
-            Answer::Done
+            Ok(())
         }
     }
 }
@@ -132,10 +132,10 @@ fn number_block(number: u64) -> [u8; 16]
 
 // A refused call for a block.
 fn no_block(x: Refusal) -> Single
-    ensures { (result.answer ≡ Answer.Refused x) × (result.block ≡ replicate 16 0) }
+    ensures { (result.answer ≡ Err x) × (result.block ≡ replicate 16 0) }
 {
     Single {
-        answer: Answer::Refused(x),
+        answer: Err(x),
         block: [0u8; 16],
     }
 }

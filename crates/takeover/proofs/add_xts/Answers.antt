@@ -16,15 +16,15 @@ returns-then-l-gt-TEXT_MOST c =
     let u : List ℕ = a.unit.now in
     let bk : Bytes k = record { below = λ i. (c.shared_slice_known-1.given i).fits } in
     let bu : Bytes u = record { below = λ i. (c.shared_slice_known-2-1.given i).fits } in
-    too_long_so a.old.now a.new.now a.store.now a.sheet k a.number u (sym c.tested.ensures ∙ ap answer_paper c.in-Done.is)
+    too_long_so a.old.now a.new.now a.store.now a.sheet k a.number u (sym c.tested.ensures ∙ ap answer_paper c.in-Ok.is)
     c.add.result c.add.new.store bk bu c.if-l-gt-TEXT_MOST.true c.add.ensures
 
 pub add_in-requires : goal.add_in-requires
 add_in-requires c =
-    (sym c.tested.ensures ∙ ap answer_paper c.in-Done.is, omega arith, refl)
+    (sym c.tested.ensures ∙ ap answer_paper c.in-Ok.is, omega arith, refl)
 
-pub returns-in-Refused : goal.returns-in-Refused
-returns-in-Refused c =
+pub returns-in-Err : goal.returns-in-Err
+returns-in-Err c =
     let a = c.args in
-    refused_so a.old.now a.new.now a.store.now a.sheet a.key.now a.number a.unit.now c.tested.result c.in-Refused.x
-    c.tested.ensures c.in-Refused.is
+    refused_so a.old.now a.new.now a.store.now a.sheet a.key.now a.number a.unit.now c.tested.result c.in-Err.x
+    c.tested.ensures c.in-Err.is

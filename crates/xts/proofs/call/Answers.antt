@@ -9,14 +9,14 @@ use Rattle.xts.proofs.call.Goals as goal
 pub transform-requires : goal.transform-requires
 transform-requires c =
     let a = c.args in
-    taken_0 (length a.key.now) (length a.unit.now) (sym c.in-Done.ensures)
+    taken_0 (length a.key.now) (length a.unit.now) (sym c.in-Ok.ensures)
 
-pub returns-in-Refused : goal.returns-in-Refused
-returns-in-Refused c =
+pub returns-in-Err : goal.returns-in-Err
+returns-in-Err c =
     let a = c.args in
-    refused a.back a.key.now a.number a.unit.now c.in-Refused.x c.in-Refused.ensures
+    refused a.back a.key.now a.number a.unit.now c.in-Err.x c.in-Err.ensures
 
-pub returns-in-Done : goal.returns-in-Done
-returns-in-Done c =
+pub returns-in-Ok : goal.returns-in-Ok
+returns-in-Ok c =
     let a = c.args in
-    done a.back a.key.now a.number a.unit.now c.in-Done.ensures c.transform.new.unit c.transform.ensures
+    done a.back a.key.now a.number a.unit.now c.in-Ok.ensures c.transform.new.unit c.transform.ensures
