@@ -9,10 +9,8 @@ ghost use Rattle.patterns.specs.Digest.{digest_step, digest_from};
 pub fn fill(s: &mut [u8], by: usize, from: usize)
     ensures { Pattern by from s.new }
 {
-    let mut i = 0;
-    while i < s.len() {
-        s[i] = pattern(by, from, i);
-        i += 1;
+    for (i, x) in s.iter_mut().enumerate() {
+        *x = pattern(by, from, i);
     }
 }
 
@@ -20,14 +18,9 @@ pub fn fill(s: &mut [u8], by: usize, from: usize)
 pub fn is_pattern(s: &[u8], by: usize, from: usize) -> bool
     ensures { (result ≡ true → Pattern by from s.now) × (result ≡ false → Pattern by from s.now → ⊥) }
 {
-    let mut i = 0;
-    while i < s.len() {
-        if s[i] != pattern(by, from, i) {
-            return false;
-        }
-        i += 1;
-    }
-    true
+    s.iter()
+        .enumerate()
+        .all(|(i, x)| *x == pattern(by, from, i))
 }
 
 // Byte i of a pattern. It goes on by one more each 256 bytes, so that it does not begin anew there.
@@ -42,10 +35,8 @@ pub fn digest(s: &[u8]) -> u64
     ensures { result ≡ digest_from 0 s.now }
 {
     let mut h = 0;
-    let mut i = 0;
-    while i < s.len() {
-        h = digest_step(h, s[i]);
-        i += 1;
+    for x in s {
+        h = digest_step(h, *x);
     }
     h
 }

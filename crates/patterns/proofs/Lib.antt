@@ -1,2 +1,0 @@
--- The laws that the loops go by.
-mod Laws
