@@ -25,7 +25,7 @@ fn seal(r: &mut [u8], w: &[u8], l: usize)
 {
     let h = block::load(r, 0);
     let to = 16 + l;
-    eme2::encipher(w, &h, &mut r[16..to]);
+    let _ = eme2::encipher(w, &h, &mut r[16..to]);
 }
 
 // The text of the record r in clear at the front of `out`; the rest of `out` is kept.
@@ -43,8 +43,8 @@ pub fn take_text(r: &[u8], o: &[u8], w: &[u8], out: &mut [u8])
         return;
     }
     if m == 1 {
-        eme2::decipher(o, &h, &mut out[0..l]);
+        let _ = eme2::decipher(o, &h, &mut out[0..l]);
         return;
     }
-    eme2::decipher(w, &h, &mut out[0..l]);
+    let _ = eme2::decipher(w, &h, &mut out[0..l]);
 }

@@ -58,13 +58,13 @@ paper_answered true false = refl
 paper_answered false b = refl
 
 module _ (k : List ℕ) (i : ℕ) (u : List ℕ) where
-  pub source_answer : (a : Answer) → answer_paper a ≡ number (length k) (length u) → xts_source k i u ≡ comes_to a (xts true k i u)
+  pub source_answer : (a : Result ⊤ Refusal) → answer_paper a ≡ number (length k) (length u) → xts_source k i u ≡ comes_to a (xts true k i u)
   unfolding xts_source number
   source_answer a e =
       let t : Bool = key_taken (length k) in
       let b : Bool = bad_unit (length u) in
       by_tests t b (xts true k i u)
-      ∙ ap (λ (y : Answer). comes_to y (xts true k i u)) (sym (paper_apart a (answered t b) (e ∙ paper_answered t b)))
+      ∙ ap (λ (y : Result ⊤ Refusal). comes_to y (xts true k i u)) (sym (paper_apart a (answered t b) (e ∙ paper_answered t b)))
 
   pub source_taken : Taken k u → xts_source k i u ≡ gives (xts true k i u)
   source_taken e = source_answer (Ok tt) (sym e)
@@ -106,10 +106,10 @@ module _ (o w s : List ℕ) (n : ℕ) (t : List ℕ) (long : text_most < length 
 -- ---- the call, from what those that it makes ensure
 
 module _ (o w s : List ℕ) (n : ℕ) (k : List ℕ) (i : ℕ) (u : List ℕ) where
-  pub refused_so : (r : Answer) (x : Refusal) → answer_paper r ≡ number (length k) (length u) → r ≡ Err x
+  pub refused_so : (r : Result ⊤ Refusal) (x : Refusal) → answer_paper r ≡ number (length k) (length u) → r ≡ Err x
       → ConvertCalled o w s n (xts_source k i u) (Refused x) s
   refused_so r x e q =
-      let c : xts_source k i u ≡ refuses x = source_answer k i u r e ∙ ap (λ (y : Answer). comes_to y (xts true k i u)) q in
+      let c : xts_source k i u ≡ refuses x = source_answer k i u r e ∙ ap (λ (y : Result ⊤ Refusal). comes_to y (xts true k i u)) q in
       (sym (ap (convert_answer o w s n) c), sym (ap (convert_store o w s n) c))
 
   module _ (e : Taken k u) (a : Stored) (s' : List ℕ) where

@@ -56,6 +56,6 @@ fn add_in(
 {
     let l = unit.len();
     block::copy(room, 0, unit);
-    xts::decipher(key, number, &mut room[0..l]);
+    let _ = xts::decipher(key, number, &mut room[0..l]);
     add(old, new, store, sheet, &room[0..l])
 }
