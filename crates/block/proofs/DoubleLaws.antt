@@ -1,8 +1,10 @@
 -- Laws of doubling and padding.
 -- Assumes nothing.
 use Rattle.std.proofs.Common.{◌≡◌, ℕ, zero, suc, ◌+◌, ◌-◌, ◌%◌, ◌<◌, ◌≤◌, Bool, true, false, cond, ltb, List, length, get_or, sym, refl, ap, ◌∙◌}
-use Rattle.std.proofs.Common.{zero-le, le_refl, mod-lt, suc-add, zero-add, arith, lit<, length-append}
+use Rattle.std.proofs.Common.{zero-le, suc-le-suc, le_refl, mod-lt, suc-add, zero-add, arith, lit<, length-append}
+use lib.Bits.{bit_xor}
 use lib.ListN.{length-replicate}
+use Rattle.std.proofs.lemmas.List.{ext_get_or}
 use Rattle.block.specs.Tab.{byte}
 use Rattle.block.specs.Bytes.{Bytes, Block}
 use Rattle.block.specs.Double.{carried, twice, double, doubles, pad}
@@ -29,6 +31,16 @@ double_at x i h k =
     ap (λ (j : ℕ). get_or (double x) j 0) (sym m)
     ∙ get_or-tab 15 (λ j. twice x (suc j)) (i - 1) 0 (omega arith)
     ∙ ap (λ (j : ℕ). (byte x j + byte x j) % 256 + carried (byte x (i - 1)) 1) m
+
+-- a list that has the bytes of the double is it
+pub is_double : (x r : List ℕ) → length r ≡ 16 → get_or r 0 0 ≡ bit_xor ((byte x 0 + byte x 0) % 256) (carried (byte x 15) 0x87)
+    → ((i : ℕ) → 1 ≤ i → i < 16 → get_or r i 0 ≡ (byte x i + byte x i) % 256 + carried (byte x (i - 1)) 1) → r ≡ double x
+unfolding double
+is_double x r l low high = ext_get_or 0 r (double x) l at
+  where
+    at : (i : ℕ) → i < length r → get_or r i 0 ≡ get_or (double x) i 0
+    at zero h = low
+    at (suc i) h = high (suc i) (suc-le-suc zero-le) (omega arith) ∙ sym (double_at x (suc i) (suc-le-suc zero-le) (omega arith))
 
 -- twice a number drops its last bit, so that one more still fits
 twice_byte : (a y : ℕ) → (a + a) % 256 + carried y 1 < 256

@@ -1,6 +1,7 @@
 -- The laws that this crate's proofs and those of the layers above cite.
 pub mod BoolLaws
 pub mod TabLaws
+pub mod MadeLaws
 pub mod BytesLaws
 pub mod Table
 pub mod XorLaws

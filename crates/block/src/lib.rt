@@ -14,13 +14,7 @@ ghost use Rattle.block.specs.Double.{carried, double, pad};
 pub fn xor(a: [u8; 16], b: [u8; 16]) -> [u8; 16]
     ensures { result ≡ a ⊕ b }
 {
-    let mut r = a;
-    let mut i = 0;
-    while i < 16 {
-        r[i] = a[i] ^ b[i];
-        i += 1;
-    }
-    r
+    std::array::from_fn(|i| a[i] ^ b[i])
 }
 
 // The block of s that starts at `at`.
@@ -29,11 +23,7 @@ pub fn load(s: &[u8], at: usize) -> [u8; 16]
     ensures { result ≡ block_at s.now at }
 {
     let mut r = [0u8; 16];
-    let mut i = 0;
-    while i < 16 {
-        r[i] = s[at + i];
-        i += 1;
-    }
+    r.copy_from_slice(&s[at..at + 16]);
     r
 }
 
@@ -42,11 +32,7 @@ pub fn put(s: &mut [u8], at: usize, b: [u8; 16])
     requires { at + 16 ≤ length s.old }
     ensures { s.new ≡ with_block s.old at b }
 {
-    let mut i = 0;
-    while i < 16 {
-        s[at + i] = b[i];
-        i += 1;
-    }
+    s[at..at + 16].copy_from_slice(&b);
 }
 
 // Puts the text into s from `at` on. Every other byte of s is kept.
@@ -54,11 +40,7 @@ pub fn copy(s: &mut [u8], at: usize, text: &[u8])
     requires { at + length text.now ≤ length s.old }
     ensures { s.new ≡ take at s.old ++ (text.now ++ drop (at + length text.now) s.old) }
 {
-    let mut i = 0;
-    while i < text.len() {
-        s[at + i] = text[i];
-        i += 1;
-    }
+    s[at..at + text.len()].copy_from_slice(text);
 }
 
 // Twice the block in the field of 2^128 elements (000, 5.1), byte 0 the low end. Byte i - 1 is carried into byte i, and byte 15 by 87 hex
@@ -66,16 +48,14 @@ pub fn copy(s: &mut [u8], at: usize, text: &[u8])
 pub fn doubled(x: [u8; 16]) -> [u8; 16]
     ensures { result ≡ double x }
 {
-    let mut r = x;
-    let mut c = carry(x[15], 0x87);
-    r[0] = std::num::wrapping_add_u8(x[0], x[0]) ^ c;
-    let mut i = 1;
-    while i < 16 {
-        c = carry(x[i - 1], 1);
-        r[i] = std::num::wrapping_add_u8(x[i], x[i]) + c;
-        i += 1;
-    }
-    r
+    std::array::from_fn(|i| {
+        let low = x[i].wrapping_add(x[i]);
+        if i == 0 {
+            low ^ carry(x[15], 0x87)
+        } else {
+            low + carry(x[i - 1], 1)
+        }
+    })
 }
 
 // The bytes of s from `at` on, fewer than 16, padded.
@@ -83,14 +63,9 @@ pub fn padded(s: &[u8], at: usize) -> [u8; 16]
     requires { (at ≤ length s.now) × (length s.now < at + 16) }
     ensures { result ≡ pad (drop at s.now) }
 {
-    let n = s.len() - at;
     let mut r = [0u8; 16];
-    let mut i = 0;
-    while i < n {
-        r[i] = s[at + i];
-        i += 1;
-    }
-    r[n] = 0x80;
+    copy(&mut r, 0, &s[at..]);
+    r[s.len() - at] = 0x80;
     r
 }
 
