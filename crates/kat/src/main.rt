@@ -9,209 +9,178 @@
 // KEY and BLOCK are in hex, of at most 64 bytes, and may be empty; one blank stands before each.
 #![tactic(auto)]
 
-ghost use Rattle.std.specs.Prelude.{◌+◌, ◌≤◌, ◌<◌, length, IfOk};
+ghost use Rattle.std.specs.Prelude.{◌≤◌, ◌<◌, length, IfSome, OnSome};
 
-use numbers::{Refusal, answer_number};
+use numbers::Refusal;
 use reading::read_full;
 use std::io;
 
-// How many bytes a run of hex digits gave, and where it ended.
+// What a line is to run.
 #[derive(Clone, Copy)]
-struct Run {
-    len: usize,
-    next: usize,
+enum Run {
+    Encipher,
+    Decipher,
+    SetUp,
+    Substitute,
+    SubstituteBack,
+}
+
+// By the line's first letter; any other enciphers.
+impl From<u8> for Run {
+    fn from(letter: u8) -> Run {
+        match letter {
+            b'd' => Run::Decipher,
+            b's' => Run::SetUp,
+            b'f' => Run::Substitute,
+            b'b' => Run::SubstituteBack,
+            _ => Run::Encipher,
+        }
+    }
+}
+
+// What is left of the text.
+#[derive(Drop)]
+struct Text<'a> {
+    rest: &'a [u8],
 }
 
 fn main(rt: HostRuntime) -> io::Result<()> {
     let mut text = [0u8; 65536];
     let n = read_full(&mut rt.stdin(), &mut text);
-    lines(&rt, &text[..n])
+    lines(&rt, Text { rest: &text[..n] })
 }
 
-fn lines(rt: &impl Print, text: &[u8]) -> io::Result<()> {
-    let mut at = 0;
-    while at < text.len() {
-        at = line(rt, text, at)?;
+fn lines(rt: &impl Print, mut text: Text) -> io::Result<()> {
+    while let Some(letter) = text.letter() {
+        let mut key = [0u8; 64];
+        let mut block = [0u8; 64];
+        let key = text.hex(&mut key);
+        let block = text.hex(&mut block);
+        answer(rt, Run::from(letter), key, block)?;
+        print!(rt; "\n")?;
+        text.end_line();
     }
     Ok(())
 }
 
-// Runs the line that starts at `at`, and answers where the next one starts.
-fn line(rt: &impl Print, text: &[u8], at: usize) -> io::Result<usize>
-    requires { at < length text.now }
-    ensures { IfOk result (λ next. (at < next) × (next ≤ length text.now)) }
-{
-    let mut key = [0u8; 64];
-    let mut block = [0u8; 64];
-    let kind = text[at];
-    let k = hex(text, at + 1, &mut key);
-    let key_len = k.len;
-    let b = hex(text, k.next, &mut block);
-    let block_len = b.len;
-    answer(rt, kind, &key[..key_len], &mut block[..block_len])?;
-    rt.write_all(b"\n")?;
-    Ok(past_line(text, b.next))
-}
-
 // Prints what the line's call answers.
-fn answer(rt: &impl Print, kind: u8, key: &[u8], block: &mut [u8]) -> io::Result<()> {
-    if kind == b's' {
-        return set_up(rt, key);
+fn answer(rt: &impl Print, run: Run, key: &[u8], block: &mut [u8]) -> io::Result<()> {
+    match run {
+        Run::Encipher => {
+            print_number(rt, aes::encipher(key, block))?;
+            print_bytes(rt, block)
+        }
+        Run::Decipher => {
+            print_number(rt, aes::decipher(key, block))?;
+            print_bytes(rt, block)
+        }
+        Run::SetUp => set_up(rt, key),
+        Run::Substitute => substitutions(rt, sbox::sub_all, tables::sub_all),
+        Run::SubstituteBack => substitutions(rt, sbox::inv_sub_all, tables::inv_sub_all),
     }
-    if kind == b'f' {
-        return substitutions(rt, false);
-    }
-    if kind == b'b' {
-        return substitutions(rt, true);
-    }
-    if kind == b'd' {
-        print_number(rt, aes::decipher(key, block))?;
-        return print_bytes(rt, block);
-    }
-    print_number(rt, aes::encipher(key, block))?;
-    print_bytes(rt, block)
 }
 
 // The last word of the key's schedule.
 fn set_up(rt: &impl Print, key: &[u8]) -> io::Result<()> {
-    let n = key.len();
-    if !aes::key_size(n) {
+    if !aes::key_size(key.len()) {
         return print_number(rt, Err(Refusal::KeyLength));
     }
     let keys = aes::key_setup(key);
-    let nr = aes::rounds_of(n);
-    let last = keys[nr];
+    let [.., a, b, c, d] = keys[aes::rounds_of(key.len())];
     print_number(rt, Ok(()))?;
-    print_byte(rt, last[12])?;
-    print_byte(rt, last[13])?;
-    print_byte(rt, last[14])?;
-    print_byte(rt, last[15])
+    print_bytes(rt, &[a, b, c, d])
 }
 
-// The substitution of all bytes, or with `back` its inverse: by the running code, then by the table.
-fn substitutions(rt: &impl Print, back: bool) -> io::Result<()> {
-    let mut worked = [0u8; 256];
-    count_up(&mut worked);
+// The substitution of all bytes: by the running code, then by the table.
+fn substitutions<F: FnOnce(&mut [u8]), G: FnOnce(&mut [u8])>(
+    rt: &impl Print,
+    work_out: F,
+    look_up: G,
+) -> io::Result<()>
+    requires worked { F.IsAlwaysCallable work_out }
+    requires looked { G.IsAlwaysCallable look_up }
+{
+    let mut worked: [u8; 256] = std::array::from_fn(|i| i as u8);
     let mut looked = worked;
-    work_out(back, &mut worked);
-    look_up(back, &mut looked);
+    work_out(&mut worked);
+    look_up(&mut looked);
     print_bytes(rt, &worked)?;
-    rt.write_all(b" ")?;
+    print!(rt; " ")?;
     print_bytes(rt, &looked)
 }
 
-// 0, 1, 2 and so on, past 255 from 0 again.
-fn count_up(s: &mut [u8]) {
-    let mut i = 0;
-    while i < s.len() {
-        s[i] = (i % 256) as u8;
-        i += 1;
-    }
-}
-
-fn work_out(back: bool, s: &mut [u8]) {
-    if back {
-        sbox::inv_sub_all(s)
-    } else {
-        sbox::sub_all(s)
-    }
-}
-
-fn look_up(back: bool, s: &mut [u8]) {
-    if back {
-        tables::inv_sub_all(s)
-    } else {
-        tables::sub_all(s)
-    }
-}
-
-fn print_number(rt: &impl Print, a: Result<(), Refusal>) -> io::Result<()> {
-    let n = answer_number(a);
-    match n {
-        0 => rt.write_all(b"0 "),
-        1 => rt.write_all(b"1 "),
-        2 => rt.write_all(b"2 "),
-        _ => rt.write_all(b"? "),
+fn print_number(rt: &impl Print, answer: Result<(), Refusal>) -> io::Result<()> {
+    match answer {
+        Ok(()) => print!(rt; "0 "),
+        Err(Refusal::KeyLength) => print!(rt; "1 "),
+        Err(Refusal::MessageLength) => print!(rt; "2 "),
+        Err(_) => print!(rt; "? "),
     }
 }
 
 fn print_bytes(rt: &impl Print, s: &[u8]) -> io::Result<()> {
-    let mut i = 0;
-    while i < s.len() {
-        print_byte(rt, s[i])?;
-        i += 1;
+    for x in s {
+        print!(rt; "{x:02x}")?;
     }
     Ok(())
 }
 
-fn print_byte(rt: &impl Print, x: u8) -> io::Result<()> {
-    print!(rt; "{x:02x}")
+impl Text<'_> {
+    fn letter(&mut self) -> Option<u8>
+        ensures { OnSome result (length self.new.rest.now < length self.old.rest.now) }
+    {
+        let (first, rest) = self.rest.split_first()?;
+        self.rest = rest;
+        Some(*first)
+    }
+
+    // The bytes of the hex digits after a blank, laid to the front of `out`.
+    fn hex<'a>(&mut self, out: &'a mut [u8]) -> &'a mut [u8]
+        ensures { length self.new.rest.now ≤ length self.old.rest.now }
+    {
+        if let [b' ', rest @ ..] = self.rest {
+            self.rest = rest;
+        }
+        for (i, x) in out.iter_mut().enumerate() {
+            let Some(byte) = self.byte() else {
+                return &mut out[..i];
+            };
+            *x = byte;
+        }
+        out
+    }
+
+    // The byte of the next two hex digits.
+    fn byte(&mut self) -> Option<u8>
+        ensures { length self.new.rest.now ≤ length self.old.rest.now }
+    {
+        let [high, low, rest @ ..] = self.rest else {
+            return None;
+        };
+        let byte = digit(*high)? * 16 + digit(*low)?;
+        self.rest = rest;
+        Some(byte)
+    }
+
+    // On to the next line.
+    fn end_line(&mut self)
+        ensures { length self.new.rest.now ≤ length self.old.rest.now }
+    {
+        let end = self.rest.iter().position(|c| *c == b'\n');
+        self.rest = match end {
+            Some(i) => &self.rest[i + 1..],
+            None => &[],
+        };
+    }
 }
 
-// The bytes of the hex digits after the blank at `from`, at the front of out.
-fn hex(text: &[u8], from: usize, out: &mut [u8]) -> Run
-    requires { from ≤ length text.now }
-    ensures { (result.len ≤ length out.new) × (from ≤ result.next) × (result.next ≤ length text.now) }
+// The value of a hex digit.
+fn digit(c: u8) -> Option<u8>
+    ensures { IfSome result (λ d. d < 16) }
 {
-    let mut n = 0;
-    let mut i = past_blank(text, from);
-    while text.len() - i >= 2 {
-        let high = digit(text[i]);
-        let low = digit(text[i + 1]);
-        if n >= out.len() {
-            return Run { len: n, next: i };
-        }
-        if high > 15 {
-            return Run { len: n, next: i };
-        }
-        if low > 15 {
-            return Run { len: n, next: i };
-        }
-        out[n] = high * 16 + low;
-        n += 1;
-        i += 2;
+    match c {
+        b'0'..=b'9' => Some(c - b'0'),
+        b'a'..=b'f' => Some(c - b'a' + 10),
+        _ => None,
     }
-    Run { len: n, next: i }
-}
-
-// The value of a hex digit, or 16.
-fn digit(c: u8) -> u8 {
-    if c >= b'0' {
-        if c <= b'9' {
-            return c - b'0';
-        }
-    }
-    if c >= b'a' {
-        if c <= b'f' {
-            return c - b'a' + 10;
-        }
-    }
-    16
-}
-
-fn past_blank(text: &[u8], at: usize) -> usize
-    requires { at ≤ length text.now }
-    ensures { (at ≤ result) × (result ≤ length text.now) }
-{
-    if at < text.len() {
-        if text[at] == b' ' {
-            return at + 1;
-        }
-    }
-    at
-}
-
-// The place after the end of the line.
-fn past_line(text: &[u8], from: usize) -> usize
-    requires { from ≤ length text.now }
-    ensures { (from ≤ result) × (result ≤ length text.now) }
-{
-    let mut i = from;
-    while i < text.len() {
-        if text[i] == b'\n' {
-            return i + 1;
-        }
-        i += 1;
-    }
-    i
 }

@@ -1,9 +1,6 @@
 -- `kat::lines` ends: each line takes it further into the text.
-use Rattle.std.proofs.Common.{◌≤◌, ◌-◌, length}
+use Rattle.std.proofs.Common.{length}
 use Rattle.kat.proofs.lines.Given as goal
 
-abbrev pub invariant-loop-at : goal.invariant-loop-at
-invariant-loop-at g l = l.at ≤ length l.text
-
-abbrev pub decreases-loop-at : goal.decreases-loop-at
-decreases-loop-at g l = length l.text - l.at
+abbrev pub decreases-loop-letter : goal.decreases-loop-letter
+decreases-loop-letter g l = length l.text.rest.now

@@ -1,9 +1,0 @@
--- `kat::past_line` meets its contract: it stays within the text.
-use Rattle.std.proofs.Common.{◌≤◌, ◌-◌, length}
-use Rattle.kat.proofs.past_line.Given as goal
-
-abbrev pub invariant-loop-i : goal.invariant-loop-i
-invariant-loop-i l = (l.from ≤ l.i) × (l.i ≤ length l.text)
-
-abbrev pub decreases-loop-i : goal.decreases-loop-i
-decreases-loop-i l = length l.text - l.i

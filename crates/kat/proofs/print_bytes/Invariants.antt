@@ -1,9 +1,0 @@
--- `kat::print_bytes` stays within the slice and ends.
-use Rattle.std.proofs.Common.{◌≤◌, ◌-◌, length}
-use Rattle.kat.proofs.print_bytes.Given as goal
-
-abbrev pub invariant-loop-i : goal.invariant-loop-i
-invariant-loop-i g l = l.i ≤ length l.s
-
-abbrev pub decreases-loop-i : goal.decreases-loop-i
-decreases-loop-i g l = length l.s - l.i
