@@ -3,37 +3,16 @@
 use mathlib.Core.Path.{◌≡◌, refl, sym, ap, ◌∙◌}
 use mathlib.Core.Bool.{Bool, true, false, cond, ◌&&◌, false≢true}
 use mathlib.Core.List.{List}
-use Prim.Native.Nat.{ℕ, suc, ◌+◌, ◌-◌, ◌≤◌, ◌<◌}
-use native.Mathlib.Nat.{le_of_eq}
-use native.Mathlib.Numerals.{add-one}
+use Prim.Native.Nat.{ℕ, ◌+◌, ◌-◌, ◌≤◌, ◌<◌}
 use native.Mathlib.Omega.{arith}
 use borrow.Author.Tests.{ltb-true, leb-true, eqb-true, lt-ltb, le-leb, eq-eqb, ne_eqb}
 use lib.Dec.{eqb, ltb, leb}
-use lib.ListN.{length, get_or, take, drop, length-drop, drop_of_length-le}
-use lib.Seq.{take_all, drop-cons}
+use lib.ListN.{length, take, drop, length-drop}
+use lib.Seq.{take_all}
 use Rattle.block.specs.Tab.{byte}
 use Rattle.block.specs.Bytes.{Bytes}
 use Rattle.block.proofs.BoolLaws.{refuted}
-use Rattle.records.specs.Record.{text_most, greatest_revision, num, rev, mark, len, all_zero, sound_used, sound}
-
--- ---- zeros, in a loop that goes through them
-
-pub zeros_turn : (s : List ℕ) (i : ℕ) → i < length s → get_or s i 0 ≡ 0 → all_zero (drop i s) ≡ all_zero (drop (i + 1) s)
-unfolding all_zero
-zeros_turn s i h e =
-    ap all_zero (drop-cons s i 0 h)
-    ∙ ap (λ (t : Bool). t && all_zero (drop (suc i) s)) (eq-eqb (get_or s i 0) 0 e)
-    ∙ ap (λ (k : ℕ). all_zero (drop k s)) (sym (add-one i))
-
-pub zeros_stop : (s : List ℕ) (i : ℕ) → i < length s → (get_or s i 0 ≡ 0 → ⊥) → all_zero (drop i s) ≡ false
-unfolding all_zero
-zeros_stop s i h e =
-    ap all_zero (drop-cons s i 0 h)
-    ∙ ap (λ (t : Bool). t && all_zero (drop (suc i) s)) (ne_eqb (get_or s i 0) 0 e)
-
-pub zeros_end : (s : List ℕ) (i : ℕ) → length s ≤ i → all_zero (drop i s) ≡ true
-unfolding all_zero
-zeros_end s i h = ap all_zero (drop_of_length-le s {i = i} h)
+use Rattle.records.specs.Record.{record_size, text_most, greatest_revision, num, rev, mark, len, all_zero, sound_used, sound}
 
 -- ---- tests joined by `&&`
 
@@ -92,9 +71,10 @@ module _ (r : List ℕ) where
       && (eq-eqb (byte r 7) 0 c i && (le-leb 16 (len r) d i && (le-leb (len r) text_most e i && (f i && all_zero (drop (16 + len r) r))))))
 
   -- the bytes after the text, as the code takes them
-  pub rest_part : (l : ℕ) → l ≡ len r → take (length r - (16 + l)) (drop (16 + l) r) ≡ drop (16 + len r) r
-  rest_part l e =
-      take_all (length r - (16 + l)) (drop (16 + l) r) (le_of_eq (length-drop (16 + l) r)) ∙ ap (λ (k : ℕ). drop (16 + k) r) e
+  pub rest_part : length r ≡ record_size → (l : ℕ) → l ≡ len r → take (record_size - (16 + l)) (drop (16 + l) r) ≡ drop (16 + len r) r
+  rest_part h l e =
+      let n : length (drop (16 + l) r) ≤ record_size - (16 + l) = omega (arith, length-drop (16 + l) r) in
+      take_all (record_size - (16 + l)) (drop (16 + l) r) n ∙ ap (λ (k : ℕ). drop (16 + k) r) e
 
   pub sound_free : num r ≡ 0 → sound r ≡ all_zero r
   unfolding sound

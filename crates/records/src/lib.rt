@@ -6,6 +6,8 @@
 
 // The fields of a record, and whether it is sound.
 mod fields;
+// The three marks. No name of it stands at the top beside the function `mark`: the two would differ in case alone.
+pub mod marks;
 // A record written whole.
 mod writing;
 

@@ -16,23 +16,11 @@ pub fn write(r: &mut [u8], n: u32, v: u32, m: u8, text: &[u8])
 fn lead(n: u32, v: u32, m: u8, l: usize) -> [u8; 16]
     ensures { result ≡ lead n v m l }
 {
+    let n = n.to_le_bytes();
+    let v = v.to_le_bytes();
+    let l = l.to_le_bytes();
     [
-        (n % 256) as u8,
-        (n / 256 % 256) as u8,
-        (n / 256 / 256 % 256) as u8,
-        (n / 256 / 256 / 256 % 256) as u8,
-        (v % 256) as u8,
-        (v / 256 % 256) as u8,
-        m,
-        0,
-        (l % 256) as u8,
-        (l / 256 % 256) as u8,
-        (v / 256 / 256 % 256) as u8,
-        (v / 256 / 256 / 256 % 256) as u8,
-        0,
-        0,
-        0,
-        0,
+        n[0], n[1], n[2], n[3], v[0], v[1], m, 0, l[0], l[1], v[2], v[3], 0, 0, 0, 0,
     ]
 }
 
@@ -41,10 +29,5 @@ pub fn clear(s: &mut [u8], from: usize)
     requires { from ≤ length s.old }
     ensures { s.new ≡ take from s.old ++ replicate (length s.old - from) 0 }
 {
-    let n = s.len() - from;
-    let mut i = 0;
-    while i < n {
-        s[from + i] = 0;
-        i += 1;
-    }
+    s[from..].fill(0);
 }

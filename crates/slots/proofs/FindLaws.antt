@@ -3,16 +3,22 @@
 use mathlib.Core.Path.{◌≡◌, refl, sym, ap, ap₂, ◌∙◌}
 use mathlib.Core.Logic.{⊎_elim}
 use mathlib.Core.Bool.{Bool, true, false, cond, not}
-use mathlib.Core.List.{List}
+use mathlib.Core.List.{List, []}
 use Prim.Native.Nat.{ℕ, zero, suc, ◌+◌, ◌-◌, ◌≤◌, ◌<◌}
+use Rattle.std.proofs.Common.{Some, None, ltb-true, ltb-false, lt-ltb, le-ltb}
+use Rattle.std.specs.List.{position_or_len, position}
+use Rattle.std.proofs.lemmas.List.Sums.{position_or_len_is}
 use native.Mathlib.Nat.{eq-or-lt_of_le}
 use native.Mathlib.Numerals.{add-one}
 use native.Mathlib.Omega.{arith}
 use borrow.Author.Tests.{eqb-true, eqb-false, eq-eqb, ne_eqb}
-use lib.Dec.{eqb}
+use lib.Dec.{eqb, ltb}
+use lib.ListN.{length, get_or}
+use Rattle.block.specs.Tab.{tab}
 use Rattle.block.proofs.BoolLaws.{clash}
+use Rattle.block.proofs.TabLaws.{get_or-tab}
 use Rattle.records.specs.Record.{num}
-use Rattle.slots.specs.Slots.{scan, lowest, tally, find_by}
+use Rattle.slots.specs.Slots.{slots, slot, scan, lowest, tally, find_by, find, found}
 
 -- ---- the first that passes a test
 
@@ -170,3 +176,57 @@ pub find_same : (c d : ℕ) (r q : ℕ → List ℕ) (n : ℕ) → c ≡ d → (
     → find_by c r n ≡ find_by d q n
 unfolding find_by
 find_same c d r q n e h = ap (lowest (has_num r n)) e ∙ scan_same (has_num r n) (has_num q n) 0 d (λ j a b. h j (omega arith))
+
+-- ---- a slot found, or none
+
+pub length-tab : (n : ℕ) (f : ℕ → List ℕ) → length (tab n f) ≡ n
+length-tab zero f = refl
+length-tab (suc n) f = ap (λ (k : ℕ). suc k) (length-tab n (λ i. f (suc i)))
+
+-- the place of the first record that passes the test p
+pub position_tab : (p : List ℕ → Bool) (c : ℕ) (r : ℕ → List ℕ)
+    → position p (tab c r) ≡ (let k : ℕ = lowest (λ j. p (r j)) c in cond (ltb k c) (Some k) None)
+position_tab p c r =
+    let t : ℕ → Bool = λ j. p (r j) in
+    let l : length (tab c r) ≡ c = length-tab c r in
+    let at : (j : ℕ) → j < c → p (get_or (tab c r) j []) ≡ t j = λ j h. ap p (get_or-tab c r j [] h) in
+    let below : (j : ℕ) → j < lowest t c → p (get_or (tab c r) j []) ≡ false =
+    λ j h. at j (omega (arith, lowest_le t c)) ∙ lowest_below t c j h in
+    let here : lowest t c < length (tab c r) → p (get_or (tab c r) (lowest t c) []) ≡ true =
+    λ h. at (lowest t c) (omega arith) ∙ lowest_has t c (omega arith) in
+    let m : position_or_len p (tab c r) ≡ lowest t c = position_or_len_is p (tab c r) (lowest t c) [] (omega (arith, lowest_le t c)) below here in
+    ap₂ (λ (k n : ℕ). cond (ltb k n) (Some k) None) m l
+
+module _ (s : List ℕ) (n : ℕ) where
+  found_at : find s n < slots s → found s n ≡ Some (find s n)
+  found_at h = ap (λ (t : Bool). cond t (Some (find s n)) None) (lt-ltb (find s n) (slots s) h)
+
+  found_out : slots s ≤ find s n → found s n ≡ None
+  found_out h = ap (λ (t : Bool). cond t (Some (find s n)) None) (le-ltb (find s n) (slots s) h)
+
+  -- what a search that found slot k, and one that found none, say
+  pub found_some : (k : ℕ) → found s n ≡ Some k → (k ≡ find s n) × (k < slots s)
+  found_some k e = by_test (ltb (find s n) (slots s)) refl
+    where
+      by_test : (t : Bool) → ltb (find s n) (slots s) ≡ t → (k ≡ find s n) × (k < slots s)
+      by_test true q =
+          let l : find s n < slots s = ltb-true (find s n) (slots s) q in
+          let f : Some (find s n) ≡ Some k = sym (found_at l) ∙ e in
+          let g : find s n ≡ k = cc in
+          (sym g, omega arith)
+      by_test false q =
+          let l : slots s ≤ find s n = ltb-false (find s n) (slots s) q in
+          let f : None ≡ Some k = sym (found_out l) ∙ e in
+          cc
+
+  pub found_none : found s n ≡ None → find s n ≡ slots s
+  found_none e = by_test (ltb (find s n) (slots s)) refl
+    where
+      by_test : (t : Bool) → ltb (find s n) (slots s) ≡ t → find s n ≡ slots s
+      by_test true q =
+          let l : find s n < slots s = ltb-true (find s n) (slots s) q in
+          let f : Some (find s n) ≡ None = sym (found_at l) ∙ e in
+          cc
+      by_test false q =
+          let l : slots s ≤ find s n = ltb-false (find s n) (slots s) q in
+          omega (arith, find_le (slots s) (slot s) n)

@@ -1,17 +1,21 @@
--- A slot as the part of the store that the code takes, and that part changed.
+-- A slot as the part of the store that the code takes, and that part changed; the slots one after the other.
 -- Assumes nothing.
-use mathlib.Core.Path.{◌≡◌, ap}
+use mathlib.Core.Path.{◌≡◌, refl, sym, ap, ap₂, ◌∙◌}
 use mathlib.Core.Bool.{false, not}
-use mathlib.Core.List.{List, ◌++◌}
-use Prim.Native.Nat.{ℕ, ◌+◌, ◌-◌, ◌*◌, ◌%◌, ◌≤◌, ◌<◌}
+use mathlib.Core.List.{List, ◌∷◌, ◌++◌}
+use Prim.Native.Nat.{ℕ, zero, suc, ◌+◌, ◌-◌, ◌*◌, ◌%◌, ◌≤◌, ◌<◌}
 use native.Mathlib.Omega.{arith}
 use borrow.Author.Tests.{ltb-false, eqb-true, not-false}
 use borrow.Rule.Slice.PartMut.{put_mid}
 use lib.Dec.{eqb, ltb}
 use lib.ListN.{length, take, drop, replicate}
+use lib.Seq.{drop-drop}
+use Rattle.std.specs.Simd.{first_chunks}
+use Rattle.block.specs.Tab.{tab}
 use Rattle.block.specs.Rows.{row, put_row}
 use Rattle.block.proofs.RowLaws.{length-row}
 use Rattle.block.proofs.PartLaws.{part_changed}
+use Rattle.block.proofs.TabLaws.{tab_ext}
 use Rattle.block.proofs.BoolLaws.{neither}
 use Rattle.records.specs.Record.{record_size}
 use Rattle.slots.specs.Slots.{slots, slot, put, emptied, bad_size}
@@ -36,6 +40,19 @@ pub emptying : (r : List ℕ) → length r ≡ record_size → take 0 r ++ repli
 emptying r h =
     let n : length r - 0 ≡ record_size = omega arith in
     ap (λ (j : ℕ). replicate {A = ℕ} j 0) n
+
+-- ---- the slots one after the other, as the chunks of a record's size
+
+pub chunks_rows : (w n : ℕ) (s : List ℕ) → first_chunks w n s ≡ tab n (row w s)
+unfolding row
+chunks_rows w zero s = refl
+chunks_rows w (suc n) s =
+    let first : 0 * w ≡ 0 = omega arith in
+    let later : (i : ℕ) → w + i * w ≡ suc i * w = λ i. omega arith in
+    ap₂ (λ (r : List ℕ) (rs : List (List ℕ)). r ∷ rs) (ap (λ (j : ℕ). take w (drop j s)) (sym first))
+    (chunks_rows w n (drop w s)
+    ∙ tab_ext n (row w (drop w s)) (λ i. row w s (suc i))
+    (λ i h. ap (take w) (drop-drop (i * w) w s ∙ ap (λ (j : ℕ). drop j s) (later i))))
 
 -- ---- a store of a size that is taken
 

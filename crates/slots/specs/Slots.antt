@@ -1,6 +1,6 @@
 -- 01, the store: records one after another, one a slot, no header; slots are looked for and counted by a test on their record.
 -- Assumes nothing.
-use Rattle.std.specs.Prelude.{Bool, cond, not, ◌||◌, List, ℕ, zero, suc, ◌+◌, ◌/◌, ◌%◌, eqb, ltb, length, replicate}
+use Rattle.std.specs.Prelude.{Bool, cond, not, ◌||◌, List, Option, Some, None, ℕ, zero, suc, ◌+◌, ◌/◌, ◌%◌, eqb, ltb, length, replicate}
 use Rattle.block.specs.Rows.{row, put_row}
 use Rattle.records.specs.Record.{record_size, num}
 
@@ -46,3 +46,7 @@ find_by c r n = lowest (λ k. eqb (num (r k)) n) c
 -- the lowest slot with sheet number n, or the count of slots
 abbrev pub find : List ℕ → ℕ → ℕ
 find s n = find_by (slots s) (slot s) n
+
+-- the same, and none where no slot has it
+abbrev pub found : List ℕ → ℕ → Option ℕ
+found s n = let k : ℕ = find s n in cond (ltb k (slots s)) (Some k) None

@@ -4,9 +4,10 @@
 // Contracts cite `specs/Slots.antt`.
 #![tactic(auto)]
 
-ghost use Rattle.std.specs.Prelude.{◌≡◌, ◌<◌, length};
-ghost use Rattle.records.specs.Record.{record_size, num};
-ghost use Rattle.slots.specs.Slots.{slots, slot, put, emptied, find, bad_size};
+ghost use Rattle.std.specs.Prelude.{◌≡◌, ◌<◌};
+ghost use Rattle.block.specs.Tab.{tab};
+ghost use Rattle.records.specs.Record.{num};
+ghost use Rattle.slots.specs.Slots.{slots, slot, put, emptied, found, bad_size};
 
 use records::{RECORD_SIZE, clear, number};
 
@@ -26,14 +27,19 @@ pub fn count(s: &[u8]) -> usize
     s.len() / RECORD_SIZE
 }
 
-// The record in slot k.
-pub fn record_at(s: &[u8], k: usize) -> &[u8]
-    requires { k < slots s.now }
-    ensures { (result.now ≡ slot s.now k) × (length result.now ≡ record_size) }
+// The records, one a slot, in their order.
+pub fn records_of(s: &[u8]) -> &[[u8; RECORD_SIZE]]
+    ensures { result.now ≡ tab (slots s.now) (slot s.now) }
 {
-    let at = k * RECORD_SIZE;
-    let end = at + RECORD_SIZE;
-    &s[at..end]
+    s.as_chunks().0
+}
+
+// The record in slot k.
+pub fn record_at(s: &[u8], k: usize) -> &[u8; RECORD_SIZE]
+    requires { k < slots s.now }
+    ensures { result.now ≡ slot s.now k }
+{
+    &records_of(s)[k]
 }
 
 pub fn number_at(s: &[u8], k: usize) -> u32
@@ -43,19 +49,11 @@ pub fn number_at(s: &[u8], k: usize) -> u32
     number(record_at(s, k))
 }
 
-// The lowest slot with sheet number n, or the count of slots if there is none.
-pub fn find(s: &[u8], n: u32) -> usize
-    ensures { result ≡ find s.now n }
+// The lowest slot with sheet number n.
+pub fn find(s: &[u8], n: u32) -> Option<usize>
+    ensures { result ≡ found s.now n }
 {
-    let c = count(s);
-    let mut k = 0;
-    while k < c {
-        if number_at(s, k) == n {
-            return k;
-        }
-        k += 1;
-    }
-    c
+    records_of(s).iter().position(|r| number(r) == n)
 }
 
 // Slot k becomes all zeros.

@@ -1,12 +1,8 @@
 -- `slots::number_at` meets its contract: the number of the slot's record.
 -- Assumes nothing.
 use mathlib.Core.Path.{ap, ◌∙◌}
-use native.Mathlib.Omega.{arith}
 use Rattle.records.specs.Record.{num}
 use Rattle.slots.proofs.number_at.Goals as goal
 
-pub number-requires : goal.number-requires
-number-requires c = omega (arith, c.record_at.ensures)
-
 pub returns : goal.returns
-returns c = c.number.ensures ∙ ap num c.record_at.ensures.0
+returns c = c.number.ensures ∙ ap num c.record_at.ensures

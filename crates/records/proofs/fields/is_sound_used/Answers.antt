@@ -42,7 +42,7 @@ pub returns : goal.returns
 returns c =
     let r : List ℕ = c.args.r.now in
     c.zeros-2.ensures
-    ∙ ap all_zero (rest_part r c.text_length-l.result c.text_length-l.ensures)
+    ∙ ap all_zero (rest_part r (omega arith) c.text_length-l.result c.text_length-l.ensures)
     ∙ sym
     (used_last r (omega arith) (omega arith) c.if-r-ne0.false (omega arith) (omega arith)
     (sym c.zeros.ensures ∙ c.if-not-zeros.false))

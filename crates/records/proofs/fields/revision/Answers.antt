@@ -1,10 +1,9 @@
--- `records::fields::revision` meets its contract: two halves, and the sum fits.
+-- `records::fields::revision` meets its contract: the low half in bytes 4 and 5, the high one in bytes 10 and 11.
 -- Assumes nothing.
-use mathlib.Core.Path.{ap₂}
-use Prim.Native.Nat.{ℕ, ◌+◌, ◌*◌}
+use Rattle.std.proofs.Common.{arith}
 use Rattle.records.specs.Record.{rev}
 use Rattle.records.proofs.fields.revision.Goals as goal
 
 pub returns : goal.returns
 unfolding rev
-returns c = ap₂ (λ (low high : ℕ). low + 65536 * high) c.half.ensures.0 c.half-2.ensures.0
+returns c = omega arith

@@ -1,26 +1,18 @@
--- `records::fields::zeros` meets its contract: what is left decides.
+-- `records::fields::zeros` meets its contract: each byte is asked.
 -- Assumes nothing.
-use mathlib.Core.Path.{refl, sym, ◌∙◌}
-use mathlib.Core.List.{List}
-use Prim.Native.Nat.{ℕ}
-use native.Mathlib.Omega.{arith}
-use Rattle.records.proofs.FieldLaws.{zeros_turn, zeros_stop, zeros_end}
+use Rattle.std.proofs.Common.{◌≡◌, ℕ, Bool, eqb, List, [], ◌∷◌, ◌&&◌, refl, ap, ◌∙◌, rules}
+use Rattle.std.specs.List.{list_all}
+use Rattle.std.proofs.lemmas.Iterator.{YieldsList-from_slice}
+use Rattle.std.proofs.lemmas.Iterator.Search.{all_from_yields_List}
+use Rattle.records.specs.Record.{all_zero}
 use Rattle.records.proofs.fields.zeros.Goals as goal
 
-pub loop-i-init : goal.loop-i-init
-loop-i-init c = (omega arith, refl)
-
-pub returns-then-s-i-ne0 : goal.returns-then-s-i-ne0
-returns-then-s-i-ne0 c =
-    let s : List ℕ = c.args.s.now in
-    sym (c.loop-i.invariant.1 ∙ zeros_stop s c.loop-i.i (omega arith) c.if-s-i-ne0.true)
-
-pub loop-i-preserved : goal.loop-i-preserved
-loop-i-preserved c =
-    let s : List ℕ = c.args.s.now in
-    (omega arith, c.loop-i.invariant.1 ∙ zeros_turn s c.loop-i.i (omega arith) c.if-s-i-ne0.false)
+each : (s : List ℕ) → list_all (λ x. eqb x 0) s ≡ all_zero s
+unfolding all_zero
+each [] = refl
+each (x ∷ s) = ap (λ (t : Bool). eqb x 0 && t) (each s)
 
 pub returns : goal.returns
 returns c =
     let s : List ℕ = c.args.s.now in
-    sym (c.loop-i.invariant.1 ∙ zeros_end s c.loop-i.i (omega arith))
+    all_from_yields_List (λ (x : ℕ). eqb x 0) _ _ _ c.all.ensures.ran (YieldsList-from_slice s cc) (λ x b q k. search rules) ∙ each s
