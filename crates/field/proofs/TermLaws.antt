@@ -1,14 +1,15 @@
 -- Laws of the terms of a product, and of their sum. Of the second factor the sum is one of its doublings, so it passes through sums and doublings,
 -- and two such sums pass through each other.
 -- Assumes nothing.
-use mathlib.Core.Path.{◌≡◌, refl, sym, ap, ap₂, ◌∙◌, subst}
+use mathlib.Core.Path.{◌≡◌, refl, sym, ap, ap₂, ◌∙◌}
 use mathlib.Core.Bool.{Bool, true, false, cond}
 use mathlib.Core.List.{List}
 use Prim.Native.Nat.{ℕ, zero, suc, ◌*◌, ◌<◌}
 use native.Mathlib.Nat.{mul-zero, mul-one}
 use native.Mathlib.Omega.{arith}
-use lib.Dec.{eqb, lit<}
-use lib.ListN.{replicate}
+use lib.Dec.{eqb}
+use lib.ListN.{length, replicate}
+use Rattle.std.proofs.lemmas.List.{ext_get_or}
 use Rattle.block.specs.Tab.{byte}
 use Rattle.block.specs.Bytes.{Block}
 use Rattle.block.specs.Xor.{◌⊕◌}
@@ -57,16 +58,15 @@ pub byte-only_if : (t : Bool) (b : List ℕ) (k : ℕ) → k < 16 → byte (only
 byte-only_if true b k h = refl
 byte-only_if false b k h = get_or-tab 16 (λ j. 0) k 0 h
 
--- as the code makes it, a byte at a time: times the bit
-pub times_bit : (t : ℕ) (b : List ℕ) (i : ℕ) → t < 2 → i < 16 → byte b i * t ≡ byte (only_if (eqb t 1) b) i
+-- as the code makes it, each byte times the bit
+times_bit : (t : ℕ) (b : List ℕ) (i : ℕ) → t < 2 → i < 16 → byte b i * t ≡ byte (only_if (eqb t 1) b) i
 times_bit zero b i h k = mul-zero (byte b i) ∙ sym (get_or-tab 16 (λ j. 0) i 0 k)
 times_bit (suc zero) b i h k = mul-one (byte b i)
 times_bit (suc (suc t)) b i h k = let z : ⊥ = omega arith in absurd z
 
-pub times_bit_fits : (t x : ℕ) → t < 2 → x < 256 → x * t < 256
-times_bit_fits zero x h k = subst (λ (n : ℕ). n < 256) (sym (mul-zero x)) (lit< tt)
-times_bit_fits (suc zero) x h k = subst (λ (n : ℕ). n < 256) (sym (mul-one x)) k
-times_bit_fits (suc (suc t)) x h k = omega arith
+pub times_each : (t : ℕ) (b r : List ℕ) → t < 2 → Block b → length r ≡ 16 → ((i : ℕ) → i < 16 → byte r i ≡ byte b i * t) → r ≡ only_if (eqb t 1) b
+times_each t b r h k l at =
+    ext_get_or 0 r (only_if (eqb t 1) b) (l ∙ sym (block_only_if (eqb t 1) k).size) (λ i m. at i (omega arith) ∙ times_bit t b i h (omega arith))
 
 -- ---- of their sum
 

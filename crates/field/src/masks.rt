@@ -10,13 +10,11 @@ pub fn mask(s: &mut [u8], l: [u8; 16]) -> [u8; 16]
     ensures { (result ≡ doubles (full s.old) l) × (s.new ≡ on_blocks (masked l) s.old) }
 {
     let mut m = l;
-    let mut at = 0;
-    while s.len() - at >= 16 {
-        let x = block::load(s, at);
-        block::put(s, at, block::xor(x, m));
+    for k in 0..s.len() / 16 {
+        let x = block::load(s, 16 * k);
+        block::put(s, 16 * k, block::xor(x, m));
         let next = block::doubled(m);
         m = next;
-        at += 16;
     }
     m
 }

@@ -10,13 +10,11 @@ pub fn product(a: [u8; 16], b: [u8; 16]) -> [u8; 16]
 {
     let mut sum = [0u8; 16];
     let mut m = b;
-    let mut n = 0;
-    while n < 128 {
+    for n in 0..128 {
         let more = xor(sum, only_if((a[n / 8] >> (n % 8)) % 2, m));
         sum = more;
         let next = doubled(m);
         m = next;
-        n += 1;
     }
     sum
 }
@@ -26,11 +24,5 @@ fn only_if(t: u8, b: [u8; 16]) -> [u8; 16]
     requires { t < 2 }
     ensures { result ≡ only_if (eqb t 1) b }
 {
-    let mut r = b;
-    let mut i = 0;
-    while i < 16 {
-        r[i] = b[i] * t;
-        i += 1;
-    }
-    r
+    std::array::from_fn(|i| b[i] * t)
 }

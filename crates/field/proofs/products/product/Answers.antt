@@ -1,10 +1,6 @@
 -- `field::products::product` meets its contract: after n turns the sum is that of the first n terms, and the doubling at hand the n-th.
 -- Assumes nothing.
-use mathlib.Core.Path.{◌≡◌, refl, sym, ap, ap₂, ◌∙◌}
-use mathlib.Core.List.{List}
-use Prim.Native.Nat.{ℕ}
-use native.Mathlib.Numerals.{add-one}
-use native.Mathlib.Omega.{arith}
+use Rattle.std.proofs.Common.{◌≡◌, ℕ, List, refl, sym, ap, ap₂, ◌∙◌, add-one, arith}
 use Rattle.block.specs.Xor.{◌⊕◌}
 use Rattle.block.specs.Double.{double, doubles}
 use Rattle.block.proofs.DoubleLaws.{doubles_suc}
@@ -13,7 +9,7 @@ use Rattle.field.proofs.products.product.Goals as goal
 
 pub loop-n-init : goal.loop-n-init
 unfolding doubles terms
-loop-n-init c = (omega arith, refl, refl)
+loop-n-init c = (refl, refl)
 
 pub loop-n-preserved : goal.loop-n-preserved
 unfolding terms
@@ -21,11 +17,10 @@ loop-n-preserved c =
     let a = c.args.a in
     let b = c.args.b in
     let n = c.loop-n.n in (
-      omega arith,
       c.xor-more.ensures
-          ∙ ap₂ (λ (s t : List ℕ). s ⊕ t) c.loop-n.invariant.1 (c.only_if.ensures ∙ ap (only_if (bit a n)) c.loop-n.invariant.2)
+          ∙ ap₂ (λ (s t : List ℕ). s ⊕ t) c.loop-n.invariant.0 (c.only_if.ensures ∙ ap (only_if (bit a n)) c.loop-n.invariant.1)
           ∙ ap (λ (j : ℕ). terms j a b) (sym (add-one n)),
-      c.doubled-next.ensures ∙ ap double c.loop-n.invariant.2 ∙ sym (doubles_suc n b) ∙ ap (λ (j : ℕ). doubles j b) (sym (add-one n)),
+      c.doubled-next.ensures ∙ ap double c.loop-n.invariant.1 ∙ sym (doubles_suc n b) ∙ ap (λ (j : ℕ). doubles j b) (sym (add-one n)),
     )
 
 pub returns : goal.returns
@@ -34,4 +29,4 @@ returns c =
     let k = c.loop-n in
     let s = c.args in
     let all : k.n ≡ 128 = omega arith in
-    k.invariant.1 ∙ ap (λ (n : ℕ). terms n s.a s.b) all
+    k.invariant.0 ∙ ap (λ (n : ℕ). terms n s.a s.b) all
