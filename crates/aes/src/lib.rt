@@ -1,8 +1,8 @@
 // AES with keys of 16 and 32 bytes, both ways (FIPS 197, whose sections `specs/Lib.antt` lists).
 //
 // `encipher` and `decipher` are the calls of 01: they take any key and any block, and refuse with 1 and 2. The layers above use five more, which
-// the rooms below offer: `key_size`, which keys are taken; `rounds_of` and `key_setup`, the latter of a key that is taken; and `crypt` and
-// `crypt_blocks`, one block and all full blocks, under round keys and 1 to 14 rounds. Contracts above cite the names of `specs/Aes.antt`, and proofs
+// the rooms below offer: `key_size`, which keys are taken; `rounds_of`, how many rounds; `key_setup`, of a key that is taken; and `crypt` and
+// `crypt_blocks`, one block and all full blocks, under the `RoundKeys` of `key_setup`. Contracts above cite the names of `specs/Aes.antt`, and proofs
 // go by `specs/Promise.antt` alone.
 #![tactic(auto)]
 
@@ -11,6 +11,7 @@ ghost use Rattle.std.specs.Prelude.{true, false};
 
 pub use cipher::{crypt, crypt_blocks};
 use numbers::Refusal;
+pub use rounds::RoundKeys;
 pub use schedule::{key_setup, key_size, rounds_of};
 
 // Overwrites the block with its encipherment under the key.
@@ -31,15 +32,13 @@ pub fn decipher(key: &[u8], block: &mut [u8]) -> Result<(), Refusal>
 fn call(back: bool, key: &[u8], block: &mut [u8]) -> Result<(), Refusal>
     ensures { Called back key.now block.old result block.new }
 {
-    let n = key.len();
-    if !key_size(n) {
+    if !key_size(key.len()) {
         return Err(Refusal::KeyLength);
     }
     if block.len() != 16 {
         return Err(Refusal::MessageLength);
     }
-    let keys = key_setup(key);
     let b = block::load(block, 0);
-    block::put(block, 0, crypt(back, keys, rounds_of(n), b));
+    block::put(block, 0, crypt(back, key_setup(key), b));
     Ok(())
 }

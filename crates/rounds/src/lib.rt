@@ -1,15 +1,24 @@
-// FIPS 197, 5.1 and 5.3: the steps of a round and of an inverse round, on a state by value.
+// FIPS 197, 5.1 and 5.3: the steps of a round and of an inverse round, on a state by value, and the round keys that the rounds take.
 //
 // Contracts cite `specs/Steps.antt`. SubBytes and its inverse are the crate `sbox`'s, AddRoundKey is `block::xor`. That each step is
 // undone by its inverse, and that a block stays a block, is in `proofs/`: `Undo`. What the columns' products are made of, also for
 // a layer that goes through many blocks at once, is in `Columns`.
 #![tactic(auto)]
 
-ghost use Rattle.std.specs.Prelude.{◌≡◌};
+ghost use Rattle.std.specs.Prelude.{◌≡◌, ◌<◌};
 ghost use Rattle.sbox.specs.Field.{xtime};
 ghost use Rattle.rounds.specs.Steps.{shift_rows, inv_shift_rows, mix_columns, inv_mix_columns, each_times_x, columns_turned};
 
 use block::xor;
+
+// The round keys of a key, 0 to `rounds`, which is the number of rounds; those after them are not used. They go by value from key setup to the
+// block function, for both directions.
+#[derive(Clone, Copy)]
+pub struct RoundKeys {
+    pub keys: [[u8; 16]; 15],
+    pub rounds: usize,
+    ghost few: { (0 < rounds) × (rounds < 15) },
+}
 
 // ShiftRows.
 pub fn shift_rows(s: [u8; 16]) -> [u8; 16]
@@ -64,10 +73,8 @@ pub fn each_times_x(s: [u8; 16]) -> [u8; 16]
     ensures { result ≡ each_times_x s }
 {
     let mut r = s;
-    let mut i = 0;
-    while i < 16 {
-        r[i] = times_x(s[i]);
-        i += 1;
+    for b in &mut r {
+        *b = times_x(*b);
     }
     r
 }

@@ -10,8 +10,9 @@ use native.Mathlib.Omega.{arith}
 use borrow.Author.Tests.{eqb-true}
 use lib.Bits.{bit_xor, xor_zero_r}
 use lib.Dec.{ltb, ltb→lt, eqb}
-use lib.ListN.{length, get_or, take, drop, set, replicate, length-append, length-drop, length-replicate}
-use lib.Seq.{length-take-le, get_or-take, get_or-drop, take-append-le, drop-append-le, drop-append-add, take_at, drop_at, drop-drop, sets-eq}
+use lib.ListN.{length, get_or, take, drop, replicate, length-append, length-drop, length-replicate}
+use lib.Seq.{length-take-le, get_or-take, get_or-drop, take-append-le, drop-append-le, drop-append-add, take_at, drop_at, drop-drop}
+use Rattle.std.specs.Simd.{first_chunks}
 use Rattle.block.specs.Tab.{tab, byte}
 use Rattle.block.specs.Bytes.{Bytes, Block}
 use Rattle.block.specs.Blocks.{block_at}
@@ -42,16 +43,6 @@ window n w at h =
 
 length-word : (w : List ℕ) (i : ℕ) → 4 * i + 4 ≤ length w → length (word w i) ≡ 4
 length-word w i h = length-take-le 4 (drop (4 * i) w) (omega (arith, length-drop (4 * i) w))
-
--- four stores in a row put a word into w
-pub put_four : (w t : List ℕ) (at : ℕ) → at + 4 ≤ length w → length t ≡ 4
-    → set (set (set (set w at (byte t 0)) (at + 1) (byte t 1)) (at + 2) (byte t 2)) (at + 3) (byte t 3) ≡ take at w ++ t ++ drop (at + 4) w
-put_four w t at h l =
-    let a : at + 1 ≡ suc at = omega arith in
-    let b : at + 2 ≡ suc (suc at) = omega arith in
-    let d : at + 3 ≡ suc (suc (suc at)) = omega arith in
-    rw (a, b, d) (sets-eq (tab 4 (λ i. byte t i)) w at h)
-    ∙ ap (λ (v : List ℕ). take at w ++ v ++ drop (at + 4) w) (tab_eta 4 t 0 l)
 
 -- a word and a round constant, which has its first byte alone
 pub with_rcon : (r : List ℕ) (j : ℕ) → length r ≡ 4 → r ⊕ Rcon j ≡ bit_xor (byte r 0) (byte rcon (j - 1)) ∷ byte r 1 ∷ byte r 2 ∷ byte r 3 ∷ []
@@ -143,6 +134,17 @@ drop_past p z m h =
     ∙ drop-append-add p (drop (length p) z) (m - length p)
     ∙ drop-drop (m - length p) (length p) z
     ∙ ap (λ (n : ℕ). drop n z) e
+
+-- n blocks from `at` on
+pub blocks_at : (n at : ℕ) (w : List ℕ) → first_chunks 16 n (drop at w) ≡ tab n (λ j. block_at w (at + 16 * j))
+blocks_at zero at w = refl
+blocks_at (suc n) at w =
+    let here : at ≡ at + 16 * 0 = omega arith in
+    ap₂ (λ (b : List ℕ) (bs : List (List ℕ)). b ∷ bs) (ap (block_at w) here)
+    (ap (first_chunks 16 n) (drop-drop 16 at w)
+    ∙ blocks_at n (at + 16) w
+    ∙ tab_ext n (λ j. block_at w (at + 16 + 16 * j)) (λ j. block_at w (at + 16 * suc j))
+    (λ j h. let e : at + 16 + 16 * j ≡ at + 16 * suc j = omega arith in ap (block_at w) e))
 
 -- the bytes that the round keys are read from
 abbrev padded : List ℕ → List ℕ

@@ -9,6 +9,8 @@ ghost use Rattle.block.specs.Blocks.{block_at};
 ghost use Rattle.schedule.specs.Size.{key_size};
 ghost use Rattle.schedule.specs.KeyExpansion.{temp, next_word, word, expanded, round_keys};
 
+use rounds::RoundKeys;
+
 // The ten round constants.
 const RCON: [u8; 10] = [0x01, 0x02, 0x04, 0x08, 0x10, 0x20, 0x40, 0x80, 0x1b, 0x36];
 
@@ -26,29 +28,31 @@ pub fn rounds_of(n: usize) -> usize
     n / 4 + 6
 }
 
-// The round keys, for both directions; those past the last round are 0.
-pub fn key_setup(key: &[u8]) -> [[u8; 16]; 15]
+// The round keys, for both directions, and how many rounds there are; the keys past the last round are 0.
+pub fn key_setup(key: &[u8]) -> RoundKeys
     requires { key_size (length key.now) ≡ true }
-    ensures { result ≡ round_keys key.now }
+    ensures keys { result.keys ≡ round_keys key.now }
+    ensures rounds { result.rounds ≡ length key.now / 4 + 6 }
 {
     let mut w = [0u8; 240];
     let n = key.len();
-    block::copy(&mut w, 0, key);
+    w[..n].copy_from_slice(key);
     expand(&mut w, n / 4);
-    round_keys(&w)
+    RoundKeys {
+        keys: round_keys(&w),
+        rounds: rounds_of(n),
+    }
 }
 
 // The words after the key's nk, up to those of the last round.
-fn expand(w: &mut [u8], nk: usize)
-    requires { (4 ≤ nk) × (nk ≤ 8) × (length w.old ≡ 240) }
+fn expand(w: &mut [u8; 240], nk: usize)
+    requires { (4 ≤ nk) × (nk ≤ 8) }
     ensures { w.new ≡ expanded nk (take (4 * nk) w.old) (3 * nk + 28) ++ drop (4 * (4 * nk + 28)) w.old }
 {
     let end = 4 * nk + 28;
-    let mut i = nk;
-    while i < end {
+    for i in nk..end {
         let t = next_word(w, nk, i);
-        put_word(w, i, t);
-        i += 1;
+        w[4 * i..4 * i + 4].copy_from_slice(&t);
     }
 }
 
@@ -85,32 +89,16 @@ fn word_at(w: &[u8], i: usize) -> [u8; 4]
     requires { 4 * i + 4 ≤ length w.now }
     ensures { result ≡ word w.now i }
 {
-    let at = 4 * i;
-    [w[at], w[at + 1], w[at + 2], w[at + 3]]
-}
-
-// Puts t into w as word i.
-fn put_word(w: &mut [u8], i: usize, t: [u8; 4])
-    requires { 4 * i + 4 ≤ length w.old }
-    ensures { w.new ≡ take (4 * i) w.old ++ t ++ drop (4 * i + 4) w.old }
-{
-    let at = 4 * i;
-    w[at] = t[0];
-    w[at + 1] = t[1];
-    w[at + 2] = t[2];
-    w[at + 3] = t[3];
+    let mut t = [0u8; 4];
+    t.copy_from_slice(&w[4 * i..4 * i + 4]);
+    t
 }
 
 // The words as round keys, four words each.
-fn round_keys(w: &[u8]) -> [[u8; 16]; 15]
-    requires { length w.now ≡ 240 }
+fn round_keys(w: &[u8; 240]) -> [[u8; 16]; 15]
     ensures { result ≡ tab 15 (λ j. block_at w.now (16 * j)) }
 {
-    let mut r = [[0u8; 16]; 15];
-    let mut j = 0;
-    while j < 15 {
-        r[j] = block::load(w, 16 * j);
-        j += 1;
-    }
-    r
+    let mut keys = [[0u8; 16]; 15];
+    keys.copy_from_slice(w.as_chunks().0);
+    keys
 }

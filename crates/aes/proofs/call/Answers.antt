@@ -4,10 +4,8 @@ use mathlib.Core.Path.{◌≡◌, sym, ap₂, ◌∙◌}
 use mathlib.Core.Bool.{true}
 use mathlib.Core.List.{List}
 use Prim.Native.Nat.{ℕ}
-use native.Mathlib.Omega.{arith}
 use lib.ListN.{length}
 use Rattle.schedule.specs.Size.{key_size}
-use Rattle.schedule.proofs.Laws.{key_sizes}
 use Rattle.cipher.specs.Cipher.{crypted}
 use Rattle.aes.proofs.Ladder.{key_refused, block_refused, done, over}
 use Rattle.aes.proofs.call.Goals as goal
@@ -27,13 +25,8 @@ returns-then-block-ne16 c =
     let a = c.args in
     block_refused a.back a.key.now a.block.now (sized (goal.at.returns-then-block-ne16 c).Else-not-key_size) c.if-block-ne16.true
 
-pub key_setup-keys-requires : goal.key_setup-keys-requires
-key_setup-keys-requires c = sized (goal.at.key_setup-keys-requires c).Else-not-key_size
-
-pub crypt-requires : goal.crypt-requires
-crypt-requires c =
-    let a = c.args in
-    omega (arith, c.rounds_of.ensures, key_sizes (length a.key.now) (sized (goal.at.crypt-requires c).Else-not-key_size))
+pub key_setup-requires : goal.key_setup-requires
+key_setup-requires c = sized (goal.at.key_setup-requires c).Else-not-key_size
 
 pub returns : goal.returns
 returns c =
@@ -44,4 +37,4 @@ returns c =
     (c.put.ensures
     ∙ over a.back k b c.if-block-ne16.false c.load-b.result c.crypt.result c.load-b.ensures
     (c.crypt.ensures
-    ∙ ap₂ (λ (keys : List (List ℕ)) (n : ℕ). crypted a.back keys n c.load-b.result) c.key_setup-keys.ensures c.rounds_of.ensures))
+    ∙ ap₂ (λ (keys : List (List ℕ)) (n : ℕ). crypted a.back keys n c.load-b.result) c.key_setup.ensures.keys c.key_setup.ensures.rounds))

@@ -8,9 +8,9 @@ use Rattle.cipher.proofs.crypt.Goals as goal
 pub returns-then-back : goal.returns-then-back
 returns-then-back c =
     let a = c.args in
-    c.inverse.ensures ∙ ap (λ (t : Bool). crypted t a.keys a.nr a.b) (sym c.if-back.true)
+    c.inverse.ensures ∙ ap (λ (t : Bool). crypted t a.keys.keys a.keys.rounds a.b) (sym c.if-back.true)
 
 pub returns-else-back : goal.returns-else-back
 returns-else-back c =
     let a = c.args in
-    c.forward.ensures ∙ ap (λ (t : Bool). crypted t a.keys a.nr a.b) (sym c.if-back.false)
+    c.forward.ensures ∙ ap (λ (t : Bool). crypted t a.keys.keys a.keys.rounds a.b) (sym c.if-back.false)

@@ -17,7 +17,7 @@ loop-s-init c = (omega arith, refl, refl)
 pub loop-s-preserved : goal.loop-s-preserved
 loop-s-preserved c =
     let a = c.args in
-    let f : List ℕ → List ℕ = crypted a.back a.keys a.nr in
+    let f : List ℕ → List ℕ = crypted a.back a.keys.keys a.keys.rounds in
     let at = c.loop-s.at in
     let y = c.crypt.result in
     let n : length c.put.new.s ≡ length c.loop-s.s = c.put.auto.s in (
@@ -35,4 +35,4 @@ shape_of-s c = c.loop-s.invariant.1
 pub returns : goal.returns
 returns c =
     let a = c.args in
-    sym (on_done (map (crypted a.back a.keys a.nr)) c.loop-s.at c.loop-s.s (omega arith) refl) ∙ c.loop-s.invariant.2
+    sym (on_done (map (crypted a.back a.keys.keys a.keys.rounds)) c.loop-s.at c.loop-s.s (omega arith) refl) ∙ c.loop-s.invariant.2

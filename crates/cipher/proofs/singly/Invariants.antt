@@ -12,8 +12,8 @@ abbrev pub invariant-loop-s : goal.invariant-loop-s
 invariant-loop-s l =
     (l.at ≤ length l.s)
     × (length l.s ≡ length l.initial.s)
-    × (take l.at l.s ++ on_blocks (map (crypted l.back l.keys l.nr)) (drop l.at l.s)
-    ≡ take l.from l.initial.s ++ on_blocks (map (crypted l.back l.keys l.nr)) (drop l.from l.initial.s))
+    × (take l.at l.s ++ on_blocks (map (crypted l.back l.keys.keys l.keys.rounds)) (drop l.at l.s)
+    ≡ take l.from l.initial.s ++ on_blocks (map (crypted l.back l.keys.keys l.keys.rounds)) (drop l.from l.initial.s))
 
 abbrev pub decreases-loop-s : goal.decreases-loop-s
 decreases-loop-s l = length l.initial.s - l.at

@@ -1,14 +1,8 @@
 -- `rounds::each_times_x` meets its contract: after i turns the first i bytes are multiplied.
 -- Assumes nothing.
-use mathlib.Core.Path.{◌≡◌}
-use mathlib.Core.List.{◌++◌}
-use Prim.Native.Nat.{◌≤◌, ◌-◌}
-use lib.ListN.{length, take, drop}
+use Rattle.std.proofs.Common.{◌≡◌, ◌++◌, take, drop}
 use Rattle.rounds.specs.Steps.{each_times_x}
 use Rattle.rounds.proofs.each_times_x.Given as goal
 
-abbrev pub invariant-loop-i : goal.invariant-loop-i
-invariant-loop-i l = (l.i ≤ 16) × (length l.s ≡ 16) × (l.r ≡ take l.i (each_times_x l.s) ++ drop l.i l.s)
-
-abbrev pub decreases-loop-i : goal.decreases-loop-i
-decreases-loop-i l = 16 - l.i
+abbrev pub invariant-loop-b : goal.invariant-loop-b
+invariant-loop-b l = l.b-items ≡ take l.b-index (each_times_x l.fn.s) ++ drop l.b-index l.fn.s

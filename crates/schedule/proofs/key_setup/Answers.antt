@@ -1,25 +1,14 @@
 -- `schedule::key_setup` meets its contract: the key at the front of 240 zeros, expanded there, is what the round keys are read from.
 -- Assumes nothing.
-use mathlib.Core.Path.{ap, ◌∙◌}
-use mathlib.Core.List.{List, ◌++◌}
-use Prim.Native.Nat.{ℕ}
-use native.Mathlib.Nat.{zero-add}
-use native.Mathlib.Omega.{arith}
-use lib.ListN.{length, drop, replicate}
-use Rattle.schedule.proofs.Laws.{key_sizes, set_up}
+use Rattle.std.proofs.Common.{ℕ, List, ◌++◌, drop, replicate, length, ap, ◌∙◌}
+use Rattle.schedule.proofs.Laws.{set_up}
 use Rattle.schedule.proofs.key_setup.Goals as goal
 
-pub copy-requires : goal.copy-requires
-copy-requires c = omega (arith, key_sizes (length c.args.key.now) c.requires)
-
-pub expand-requires : goal.expand-requires
-expand-requires c =
-    let s = key_sizes (length c.args.key.now) c.requires in (s.0, s.1, c.copy.auto.s)
-
-pub returns : goal.returns
-returns c =
+pub returns-clause-keys : goal.returns-clause-keys
+returns-clause-keys c =
     let key : List ℕ = c.args.key.now in
+    let zeros : List ℕ = replicate 240 0 in
     c.round_keys.ensures
-    ∙ set_up key c.copy.new.s c.expand.new.w c.requires
-    (c.copy.ensures ∙ ap (λ (n : ℕ). key ++ drop n (replicate 240 0)) (zero-add (length key)))
+    ∙ set_up key (c.copy_from_slice.new.self ++ drop (length key) zeros) c.expand.new.w c.requires
+    (ap (λ (k : List ℕ). k ++ drop (length key) zeros) c.copy_from_slice.ensures.after)
     c.expand.ensures

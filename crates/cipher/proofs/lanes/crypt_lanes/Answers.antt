@@ -10,10 +10,10 @@ pub returns-then-back : goal.returns-then-back
 returns-then-back c l h =
     let a = c.args in
     c.inverse.ensures l h
-    ∙ ap (λ (t : Bool). crypted t a.keys a.nr (lane a.b.now l)) (sym c.if-back.true)
+    ∙ ap (λ (t : Bool). crypted t a.keys.keys a.keys.rounds (lane a.b.now l)) (sym c.if-back.true)
 
-pub returns : goal.returns
-returns c l h =
+pub returns-else-back : goal.returns-else-back
+returns-else-back c l h =
     let a = c.args in
     c.forward.ensures l h
-    ∙ ap (λ (t : Bool). crypted t a.keys a.nr (lane a.b.now l)) (sym c.if-back.false)
+    ∙ ap (λ (t : Bool). crypted t a.keys.keys a.keys.rounds (lane a.b.now l)) (sym c.if-back.false)

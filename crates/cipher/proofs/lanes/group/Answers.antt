@@ -17,7 +17,7 @@ returns c =
     let s : List ℕ = c.args.s.now in
     let n = c.args.n in
     let at = c.args.at in
-    let f : List ℕ → List ℕ = crypted c.args.back c.args.keys c.args.nr in
+    let f : List ℕ → List ℕ = crypted c.args.back c.args.keys.keys c.args.keys.rounds in
     let b : List ℕ = c.spread.new.d in
     let a : List ℕ = c.crypt_lanes.new.a in
     c.gather.ensures

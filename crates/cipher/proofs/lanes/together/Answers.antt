@@ -13,10 +13,10 @@ pub loop-s-preserved : goal.loop-s-preserved
 loop-s-preserved c =
     let g = c.group in
     let a = c.args in
-    let n = c.at_most_sixteen-n.result in (
+    let n = c.min-n.result in (
       omega arith,
       g.auto.s ∙ c.loop-s.invariant.1,
-      on_group (crypted a.back a.keys a.nr) n c.loop-s.at c.loop-s.s g.new.s (omega arith) g.auto.s g.ensures
+      on_group (crypted a.back a.keys.keys a.keys.rounds) n c.loop-s.at c.loop-s.s g.new.s (omega arith) g.auto.s g.ensures
           ∙ c.loop-s.invariant.2,
     )
 
