@@ -28,7 +28,7 @@ read_off e k f u r c o w = (
 pub returns-in-Refused : goal.returns-in-Refused
 returns-in-Refused c =
     let a = c.args in
-    read_off (sym c.check.ensures ∙ c.in-Refused.is) c.number.ensures a.fault a.used a.free a.clear a.old a.new
+    read_off (sym c.check.ensures ∙ c.in-Refused.is) c.from.ensures a.fault a.used a.free a.clear a.old a.new
 
 pub returns-in-Fault : goal.returns-in-Fault
 returns-in-Fault c =

@@ -8,7 +8,7 @@ pub returns-in-Refused : goal.returns-in-Refused
 returns-in-Refused c =
     let a = c.args in
     let e = sym c.read.ensures.0 ∙ c.in-Refused.is in
-    (c.number.ensures ∙ sym (ap read_number e), c.read.ensures.1, sym (ap (length_or a.l) e), sym (ap (seen_or a.v) e))
+    (c.from.ensures ∙ sym (ap read_number e), c.read.ensures.1, sym (ap (length_or a.l) e), sym (ap (seen_or a.v) e))
 
 pub returns-in-Read : goal.returns-in-Read
 returns-in-Read c =

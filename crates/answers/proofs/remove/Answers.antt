@@ -7,7 +7,7 @@ use Rattle.answers.proofs.remove.Goals as goal
 pub returns-in-Refused : goal.returns-in-Refused
 returns-in-Refused c =
     let e = sym c.remove.ensures.0 ∙ c.in-Refused.is in
-    (c.number.ensures ∙ sym (ap removed_number e), c.remove.ensures.1)
+    (c.from.ensures ∙ sym (ap removed_number e), c.remove.ensures.1)
 
 pub returns-in-Done : goal.returns-in-Done
 returns-in-Done c =

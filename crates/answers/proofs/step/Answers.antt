@@ -9,7 +9,7 @@ pub returns-in-Refused : goal.returns-in-Refused
 returns-in-Refused c =
     let a = c.args in
     let e = sym c.step_at.ensures.0 ∙ c.in-Refused.is in
-    (c.number.ensures ∙ sym (ap step_number e), c.step_at.ensures.1, sym (ap (place_after a.place) e), sym (ap (outcome_or a.outcome) e))
+    (c.from.ensures ∙ sym (ap step_number e), c.step_at.ensures.1, sym (ap (place_after a.place) e), sym (ap (outcome_or a.outcome) e))
 
 pub returns-in-Went : goal.returns-in-Went
 returns-in-Went c =
