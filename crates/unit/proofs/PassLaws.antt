@@ -63,20 +63,20 @@ module _ (f : List ℕ → List ℕ) (size : (x : List ℕ) → length (f x) ≡
   pub stealing : (T₁ T₂ s : List ℕ) → 16 < length s → length s < 32 → (cc pp s1 y : List ℕ)
       → cc ≡ xts_block f T₁ (block_at s 0)
       → pp ≡ take (length s - 16) (drop 16 s) ++ drop (0 + length (take (length s - 16) (drop 16 s))) cc
-      → s1 ≡ take 16 s ++ (take (length s - 16 - 0) cc ++ drop (16 + length (take (length s - 16 - 0) cc)) s)
+      → s1 ≡ take 16 s ++ (take (length s - 16) cc ++ drop (16 + length (take (length s - 16) cc)) s)
       → y ≡ xts_block f T₂ pp
       → with_block s1 0 y ≡ stolen f T₁ T₂ (take 16 s) (drop 16 s)
   unfolding stolen
   stealing T₁ T₂ s h k cc pp s1 y e_cc e_pp e_s1 e_y =
       let r : List ℕ = drop 16 s in
-      let m : List ℕ = take (length s - 16 - 0) cc in
+      let m : List ℕ = take (length s - 16) cc in
       let l : length cc ≡ 16 = ap length e_cc ∙ length_under T₁ (block_at s 0) in
       let part : take (length s - 16) r ≡ r = take_all (length s - 16) r (omega (arith, length-drop 16 s)) in
       let q_pp : pp ≡ r ++ CP f T₁ T₂ (take 16 s) r =
       e_pp ∙ ap₂ (λ (x c : List ℕ). x ++ drop (0 + length x) c) part e_cc ∙ ap (λ (j : ℕ). r ++ drop j (xts_block f T₁ (take 16 s))) (zero-add (length r)) in
-      let j : length s - 16 - 0 ≡ length r = omega (arith, length-drop 16 s) in
+      let j : length s - 16 ≡ length r = omega (arith, length-drop 16 s) in
       let q_m : m ≡ Cm f T₁ T₂ (take 16 s) r = ap₂ (λ (i : ℕ) (c : List ℕ). take i c) j e_cc in
-      let n : length m ≡ length s - 16 - 0 = length-take-le (length s - 16 - 0) cc (omega arith) in
+      let n : length m ≡ length s - 16 = length-take-le (length s - 16) cc (omega arith) in
       let none : drop (16 + length m) s ≡ [] = drop_of_length-le s {i = 16 + length m} (omega arith) in
       ap₂ (λ (a z : List ℕ). a ++ drop 16 z) (e_y ∙ ap (xts_block f T₂) q_pp)
       (e_s1 ∙ ap₂ (λ (a z : List ℕ). take 16 s ++ (a ++ z)) q_m none ∙ ap (λ (a : List ℕ). take 16 s ++ a) (append-nil (Cm f T₁ T₂ (take 16 s) r)))
@@ -90,12 +90,10 @@ module _ (s : List ℕ) (h : 16 ≤ length s) (k : ℕ) (e : k ≡ alone (length
   within = subst (λ (j : ℕ). 16 * j ≤ length s) (sym e) (left_of (length s) h).within
 
   -- the unit is as long once its blocks have become x
-  pub as_long : (x : List ℕ) → length x ≡ length (take (16 * k - 0) s) → length (put_mid 0 (16 * k - 0) s x) ≡ length s
+  pub as_long : (x : List ℕ) → length x ≡ length (take (16 * k) s) → length (x ++ drop (16 * k) s) ≡ length s
   as_long x l =
       let w : 16 * k ≤ length s = within in
-      ap length (part_changed 0 (16 * k) s x (omega arith))
-      ∙ length-append x (drop (16 * k) s)
-      ∙ omega (arith, length-drop (16 * k) s, length-take-le (16 * k - 0) s (omega arith))
+      length-append x (drop (16 * k) s) ∙ omega (arith, length-drop (16 * k) s, length-take-le (16 * k) s (omega arith))
 
   -- what is left is what stealing takes, whatever became of the blocks
   pub left_over : (s1 : List ℕ) → length s1 ≡ length s
@@ -110,25 +108,23 @@ module _ (s : List ℕ) (h : 16 ≤ length s) (k : ℕ) (e : k ≡ alone (length
       subst (λ (i : ℕ). (i ≡ 0) ⊎ ((16 < i) × (i < 32))) (sym m) (left_of (length s) h).left
 
   pub unit_steps : (f : List ℕ → List ℕ) (back : Bool) (T next x y : List ℕ)
-      → next ≡ doubles (full (take (16 * k - 0) s)) T
-      → x ≡ on_blocks (xts_blocks f T) (take (16 * k - 0) s)
-      → length x ≡ length (take (16 * k - 0) s)
-      → y ≡ last_two f back next (take (length (put_mid 0 (16 * k - 0) s x) - 16 * k) (drop (16 * k) (put_mid 0 (16 * k - 0) s x)))
-      → put_mid (16 * k) (length (put_mid 0 (16 * k - 0) s x) - 16 * k) (put_mid 0 (16 * k - 0) s x) y ≡ xts_unit f back T s
+      → next ≡ doubles (full (take (16 * k) s)) T
+      → x ≡ on_blocks (xts_blocks f T) (take (16 * k) s)
+      → length x ≡ length (take (16 * k) s)
+      → y ≡ last_two f back next (take (length (x ++ drop (16 * k) s) - 16 * k) (drop (16 * k) (x ++ drop (16 * k) s)))
+      → put_mid (16 * k) (length (x ++ drop (16 * k) s) - 16 * k) (x ++ drop (16 * k) s) y ≡ xts_unit f back T s
   unfolding xts_unit
   unit_steps f back T next x y e_next e_x l_x e_y =
       let w : 16 * k ≤ length s = within in
-      let s1 : List ℕ = put_mid 0 (16 * k - 0) s x in
       let d : List ℕ = drop (16 * k) s in
-      let part : take (16 * k - 0) s ≡ take (16 * k) s = let j : 16 * k - 0 ≡ 16 * k = omega arith in ap (λ (i : ℕ). take i s) j in
-      let l : length x ≡ 16 * k = l_x ∙ ap length part ∙ length-take-le (16 * k) s w in
-      let n : full (take (16 * k - 0) s) ≡ k = omega (arith, l, l_x) in
+      let s1 : List ℕ = x ++ d in
+      let l : length x ≡ 16 * k = l_x ∙ length-take-le (16 * k) s w in
+      let n : full (take (16 * k) s) ≡ k = omega (arith, l, l_x) in
       let q_next : next ≡ doubles k T = e_next ∙ ap (λ (j : ℕ). doubles j T) n in
-      let q_x : x ≡ join (xts_blocks f T (blocks k s)) = e_x ∙ ap (on_blocks (xts_blocks f T)) part ∙ on_front (xts_blocks f T) k s w in
-      let q_s : s1 ≡ x ++ d = part_changed 0 (16 * k) s x (omega arith) in
+      let q_x : x ≡ join (xts_blocks f T (blocks k s)) = e_x ∙ on_front (xts_blocks f T) k s w in
       let m : length s1 ≡ length s = as_long x l_x in
-      let q_d : drop (16 * k) s1 ≡ d = ap (λ (z : List ℕ). drop (16 * k) z) q_s ∙ drop_at x d (16 * k) l in
-      let q_t : take (16 * k) s1 ≡ x = ap (λ (z : List ℕ). take (16 * k) z) q_s ∙ take_at x d (16 * k) l in
+      let q_d : drop (16 * k) s1 ≡ d = drop_at x d (16 * k) l in
+      let q_t : take (16 * k) s1 ≡ x = take_at x d (16 * k) l in
       let q_l : take (length s1 - 16 * k) (drop (16 * k) s1) ≡ d =
       take_all (length s1 - 16 * k) (drop (16 * k) s1) (omega (arith, length-drop (16 * k) s1)) ∙ q_d in
       let q_y : y ≡ last_two f back (doubles k T) d = e_y ∙ ap₂ (last_two f back) q_next q_l in

@@ -11,17 +11,17 @@ ghost use Rattle.block.specs.Double.{doubles};
 ghost use Rattle.aes.specs.Aes.{crypted};
 ghost use Rattle.unit.specs.Unit.{alone, xts_block, xts_blocks, stolen, last_two, xts_unit};
 
+use aes::RoundKeys;
 use field::mask;
 
 // The unit s, of 16 bytes or more, enciphered, or with `back` deciphered. t is the tweak of its block 0.
-pub fn unit(back: bool, keys: [[u8; 16]; 15], nr: usize, t: [u8; 16], s: &mut [u8])
-    requires { (0 < nr) × (nr < 15) × (16 ≤ length s.old) }
-    ensures { s.new ≡ xts_unit (crypted back keys nr) back t s.old }
+pub fn unit(back: bool, keys: RoundKeys, t: [u8; 16], s: &mut [u8])
+    requires { 16 ≤ length s.old }
+    ensures { s.new ≡ xts_unit (crypted back keys.keys keys.rounds) back t s.old }
 {
     let end = 16 * alone(s.len());
-    let next = blocks(back, keys, nr, t, &mut s[0..end]);
-    let n = s.len();
-    last_two(back, keys, nr, next, &mut s[end..n]);
+    let next = blocks(back, keys, t, &mut s[..end]);
+    last_two(back, keys, next, &mut s[end..]);
 }
 
 // How many blocks of a unit of n bytes can be read alone.
@@ -36,59 +36,49 @@ pub fn alone(n: usize) -> usize
 }
 
 // The block x under its tweak t.
-pub fn under(back: bool, keys: [[u8; 16]; 15], nr: usize, t: [u8; 16], x: [u8; 16]) -> [u8; 16]
-    requires { (0 < nr) × (nr < 15) }
-    ensures { result ≡ xts_block (crypted back keys nr) t x }
+pub fn under(back: bool, keys: RoundKeys, t: [u8; 16], x: [u8; 16]) -> [u8; 16]
+    ensures { result ≡ xts_block (crypted back keys.keys keys.rounds) t x }
 {
-    block::xor(aes::crypt(back, keys, nr, block::xor(x, t)), t)
+    block::xor(aes::crypt(back, keys, block::xor(x, t)), t)
 }
 
 // All full blocks of s, each under its tweak; t is the first one's, and the tweak after the last one's is returned.
-fn blocks(back: bool, keys: [[u8; 16]; 15], nr: usize, t: [u8; 16], s: &mut [u8]) -> [u8; 16]
-    requires { (0 < nr) × (nr < 15) }
+fn blocks(back: bool, keys: RoundKeys, t: [u8; 16], s: &mut [u8]) -> [u8; 16]
     ensures { (result ≡ doubles (full s.old) t)
-        × (s.new ≡ on_blocks (xts_blocks (crypted back keys nr) t) s.old) }
+        × (s.new ≡ on_blocks (xts_blocks (crypted back keys.keys keys.rounds) t) s.old) }
 {
     mask(s, t);
-    aes::crypt_blocks(back, keys, nr, s);
+    aes::crypt_blocks(back, keys, s);
     mask(s, t)
 }
 
 // What is left of a unit after the blocks that can be read alone: nothing, or the last full block and the bytes after it. t is the tweak of
 // the full one; enciphering has it first, and deciphering the next one.
-fn last_two(back: bool, keys: [[u8; 16]; 15], nr: usize, t: [u8; 16], s: &mut [u8])
-    requires { (0 < nr) × (nr < 15) × ((length s.old ≡ 0) ⊎ ((16 < length s.old) × (length s.old < 32))) }
-    ensures { s.new ≡ last_two (crypted back keys nr) back t s.old }
+fn last_two(back: bool, keys: RoundKeys, t: [u8; 16], s: &mut [u8])
+    requires { (length s.old ≡ 0) ⊎ ((16 < length s.old) × (length s.old < 32)) }
+    ensures { s.new ≡ last_two (crypted back keys.keys keys.rounds) back t s.old }
 {
-    if s.len() == 0 {
+    if s.is_empty() {
         return;
     }
     let next = block::doubled(t);
     if back {
-        steal(back, keys, nr, next, t, s);
+        steal(back, keys, next, t, s);
         return;
     }
-    steal(back, keys, nr, t, next, s);
+    steal(back, keys, t, next, s);
 }
 
 // Ciphertext stealing on s, a full block and fewer than 16 bytes after it. The first bytes of what the first tweak makes of the block change places with
 // those after it, and the block that comes of that goes under the second tweak.
-fn steal(
-    back: bool,
-    keys: [[u8; 16]; 15],
-    nr: usize,
-    first: [u8; 16],
-    second: [u8; 16],
-    s: &mut [u8],
-)
-    requires { (0 < nr) × (nr < 15) × (16 < length s.old) × (length s.old < 32) }
-    ensures { s.new ≡ stolen (crypted back keys nr) first second (take 16 s.old) (drop 16 s.old) }
+fn steal(back: bool, keys: RoundKeys, first: [u8; 16], second: [u8; 16], s: &mut [u8])
+    requires { (16 < length s.old) × (length s.old < 32) }
+    ensures { s.new ≡ stolen (crypted back keys.keys keys.rounds) first second (take 16 s.old) (drop 16 s.old) }
 {
-    let cc = under(back, keys, nr, first, block::load(s, 0));
-    let n = s.len();
-    let m = n - 16;
+    let cc = under(back, keys, first, block::load(s, 0));
+    let m = s.len() - 16;
     let mut pp = cc;
-    block::copy(&mut pp, 0, &s[16..n]);
-    block::copy(s, 16, &cc[0..m]);
-    block::put(s, 0, under(back, keys, nr, second, pp));
+    block::copy(&mut pp, 0, &s[16..]);
+    block::copy(s, 16, &cc[..m]);
+    block::put(s, 0, under(back, keys, second, pp));
 }

@@ -1,4 +1,5 @@
 -- The laws by which the code is joined to the definitions.
+pub mod ChunkLaws
 pub mod PassLaws
 pub mod AssociatedLaws
 pub mod MixLaws

@@ -3,7 +3,7 @@
 use mathlib.Core.Path.{◌≡◌, ap, ap₂, ◌∙◌}
 use mathlib.Core.Bool.{Bool, true, false, cond}
 use mathlib.Core.List.{List, [], ◌∷◌, ◌++◌}
-use Prim.Native.Nat.{ℕ, ◌+◌, ◌-◌, ◌*◌, ◌/◌, ◌%◌, ◌≤◌, ◌<◌}
+use Prim.Native.Nat.{ℕ, ◌+◌, ◌-◌, ◌*◌, ◌%◌, ◌≤◌, ◌<◌}
 use native.Mathlib.Omega.{arith}
 use borrow.Author.Tests.{eq-eqb, ne_eqb}
 use lib.Dec.{eqb}
@@ -37,25 +37,25 @@ pub total_short : (X d : List ℕ) → 0 < length d → length d < 16 → total_
 unfolding total padded
 total_short X d h k = total_last X d k ∙ ap (λ (t : Bool). total X (cond t (pad d ∷ []) [])) (is_short_lem d h)
 
--- ---- steps 24 to 32 and 36 to 39: the block that stands at `at`
+-- ---- steps 24 to 32 and 36 to 39: block k, counted from 0
 
-begins_at : (at : ℕ) (t : Bool) → eqb (at / 16 % 128) 0 ≡ t → begins (at / 16 + 1) ≡ t
-begins_at at t e =
-    let n : at / 16 + 1 - 1 ≡ at / 16 = omega arith in
-    ap (λ (k : ℕ). eqb (k % 128) 0) n ∙ e
+begins_at : (k : ℕ) (t : Bool) → eqb (k % 128) 0 ≡ t → begins (k + 1) ≡ t
+begins_at k t e =
+    let n : k + 1 - 1 ≡ k = omega arith in
+    ap (λ (j : ℕ). eqb (j % 128) 0) n ∙ e
 
-module _ (f : List ℕ → List ℕ) (M1 : List ℕ) (at : ℕ) (M X : List ℕ) where
-  pub mask_doubled : (at / 16 % 128 ≡ 0 → ⊥) → mask f M1 (at / 16 + 1) M X ≡ double M
-  mask_doubled h = ap (λ (t : Bool). cond t ((X ⊕ M1) ⊕ f (X ⊕ M1)) (double M)) (begins_at at false (ne_eqb (at / 16 % 128) 0 h))
+module _ (f : List ℕ → List ℕ) (M1 : List ℕ) (k : ℕ) (M X : List ℕ) where
+  pub mask_doubled : (k % 128 ≡ 0 → ⊥) → mask f M1 (k + 1) M X ≡ double M
+  mask_doubled h = ap (λ (t : Bool). cond t ((X ⊕ M1) ⊕ f (X ⊕ M1)) (double M)) (begins_at k false (ne_eqb (k % 128) 0 h))
 
-  pub mask_new : at / 16 % 128 ≡ 0 → mask f M1 (at / 16 + 1) M X ≡ (X ⊕ M1) ⊕ f (X ⊕ M1)
-  mask_new h = ap (λ (t : Bool). cond t ((X ⊕ M1) ⊕ f (X ⊕ M1)) (double M)) (begins_at at true (eq-eqb (at / 16 % 128) 0 h))
+  pub mask_new : k % 128 ≡ 0 → mask f M1 (k + 1) M X ≡ (X ⊕ M1) ⊕ f (X ⊕ M1)
+  mask_new h = ap (λ (t : Bool). cond t ((X ⊕ M1) ⊕ f (X ⊕ M1)) (double M)) (begins_at k true (eq-eqb (k % 128) 0 h))
 
-  pub ccc_doubled : (at / 16 % 128 ≡ 0 → ⊥) → ccc_of f M1 (at / 16 + 1) M X ≡ X ⊕ M
-  ccc_doubled h = ap (λ (t : Bool). cond t (f (X ⊕ M1) ⊕ M1) (X ⊕ M)) (begins_at at false (ne_eqb (at / 16 % 128) 0 h))
+  pub ccc_doubled : (k % 128 ≡ 0 → ⊥) → ccc_of f M1 (k + 1) M X ≡ X ⊕ M
+  ccc_doubled h = ap (λ (t : Bool). cond t (f (X ⊕ M1) ⊕ M1) (X ⊕ M)) (begins_at k false (ne_eqb (k % 128) 0 h))
 
-  pub ccc_new : at / 16 % 128 ≡ 0 → ccc_of f M1 (at / 16 + 1) M X ≡ f (X ⊕ M1) ⊕ M1
-  ccc_new h = ap (λ (t : Bool). cond t (f (X ⊕ M1) ⊕ M1) (X ⊕ M)) (begins_at at true (eq-eqb (at / 16 % 128) 0 h))
+  pub ccc_new : k % 128 ≡ 0 → ccc_of f M1 (k + 1) M X ≡ f (X ⊕ M1) ⊕ M1
+  ccc_new h = ap (λ (t : Bool). cond t (f (X ⊕ M1) ⊕ M1) (X ⊕ M)) (begins_at k true (eq-eqb (k % 128) 0 h))
 
 module _ (f : List ℕ → List ℕ) (size : (x : List ℕ) → length (f x) ≡ 16) where
   of_ccc : (t : Bool) (M1 M X : List ℕ) → length X ≡ 16 → length (cond t (f (X ⊕ M1) ⊕ M1) (X ⊕ M)) ≡ 16

@@ -16,10 +16,10 @@ pub returns : goal.returns
 returns c =
     let a = c.args in
     let s : List ℕ = a.s.now in
-    let f : List ℕ → List ℕ = crypted a.back a.keys a.nr in
+    let f : List ℕ → List ℕ = crypted a.back a.keys.keys a.keys.rounds in
     let n : length c.crypt_blocks.new.s ≡ length s = c.crypt_blocks.auto.s ∙ c.mask.auto.s in (
       c.mask-2.ensures.0 ∙ ap (λ (j : ℕ). doubles (j / 16) a.t) n,
       c.mask-2.ensures.1
           ∙ ap (on_blocks (masked a.t)) (c.crypt_blocks.ensures ∙ ap (on_blocks (map f)) c.mask.ensures.1)
-          ∙ passes f (length-crypted a.back a.keys a.nr) a.t s,
+          ∙ passes f (length-crypted a.back a.keys.keys a.keys.rounds) a.t s,
     )

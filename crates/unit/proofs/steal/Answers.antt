@@ -12,9 +12,9 @@ use Rattle.unit.proofs.steal.Goals as goal
 pub returns : goal.returns
 returns c =
     let a = c.args in
-    let f : List ℕ → List ℕ = crypted a.back a.keys a.nr in
+    let f : List ℕ → List ℕ = crypted a.back a.keys.keys a.keys.rounds in
     c.put.ensures
-    ∙ stealing f (length-crypted a.back a.keys a.nr) a.first a.second a.s.now c.requires.2 c.requires.3 c.under-cc.result
+    ∙ stealing f (length-crypted a.back a.keys.keys a.keys.rounds) a.first a.second a.s.now c.requires.0 c.requires.1 c.under-cc.result
     c.copy.new.s c.copy-2.new.s c.under.result
     (c.under-cc.ensures ∙ ap (xts_block f a.first) c.load.ensures)
     c.copy.ensures c.copy-2.ensures c.under.ensures

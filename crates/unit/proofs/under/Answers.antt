@@ -13,4 +13,4 @@ unfolding xts_block
 returns c =
     let a = c.args in
     c.xor-2.ensures
-    ∙ ap (λ (x : List ℕ). x ⊕ a.t) (c.crypt.ensures ∙ ap (crypted a.back a.keys a.nr) c.xor.ensures)
+    ∙ ap (λ (x : List ℕ). x ⊕ a.t) (c.crypt.ensures ∙ ap (crypted a.back a.keys.keys a.keys.rounds) c.xor.ensures)

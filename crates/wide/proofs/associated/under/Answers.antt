@@ -12,4 +12,4 @@ pub returns : goal.returns
 returns c =
     let a = c.args in
     c.xor-2.ensures
-    ∙ ap (λ (x : List ℕ). x ⊕ a.m) (c.crypt.ensures ∙ ap (crypted false a.keys a.nr) c.xor.ensures)
+    ∙ ap (λ (x : List ℕ). x ⊕ a.m) (c.crypt.ensures ∙ ap (crypted false a.keys.keys a.keys.rounds) c.xor.ensures)

@@ -16,11 +16,11 @@ returns-then-s-eq0 c =
     let a = c.args in
     let s : List ℕ = a.s.now in
     let n : length (rest s) ≡ 0 = length-drop (full s * 16) s ∙ omega arith in
-    ap (λ (t : Bool). cond t (crypted a.back a.keys a.nr a.mm) a.mm) (sym (not_short (rest s) n))
+    ap (λ (t : Bool). cond t (crypted a.back a.keys.keys a.keys.rounds a.mm) a.mm) (sym (not_short (rest s) n))
 
 pub returns : goal.returns
 returns c =
     let a = c.args in
     let s : List ℕ = a.s.now in
     let n : 0 < length (rest s) = omega (arith, length-drop (full s * 16) s) in
-    c.crypt.ensures ∙ ap (λ (t : Bool). cond t (crypted a.back a.keys a.nr a.mm) a.mm) (sym (is_short_lem (rest s) n))
+    c.crypt.ensures ∙ ap (λ (t : Bool). cond t (crypted a.back a.keys.keys a.keys.rounds a.mm) a.mm) (sym (is_short_lem (rest s) n))

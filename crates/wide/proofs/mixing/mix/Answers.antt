@@ -35,10 +35,10 @@ returns c =
     let a = c.args in
     let s : List ℕ = a.s.now in
     let s2 : List ℕ = c.short.new.s in
-    let f : List ℕ → List ℕ = crypted a.back a.keys a.nr in
-    let h : 16 ≤ length s = c.requires.2 in
+    let f : List ℕ → List ℕ = crypted a.back a.keys.keys a.keys.rounds in
+    let h : 16 ≤ length s = c.requires in
     c.put.ensures
-    ∙ mixing f (length-crypted a.back a.keys a.nr) a.t s h c.xor-mp.result c.crypt-mm.result c.mc1-c1.result c.xor.result
+    ∙ mixing f (length-crypted a.back a.keys.keys a.keys.rounds) a.t s h c.xor-mp.result c.crypt-mm.result c.mc1-c1.result c.xor.result
     c.blocks-2.new.s s2 c.xor-2.result
     (c.xor-mp.ensures ∙ ap (λ (x : List ℕ). x ⊕ a.t) (c.total.ensures ∙ ap (λ (x : List ℕ). total_of x (drop 16 s)) c.load.ensures))
     c.crypt-mm.ensures

@@ -28,11 +28,11 @@ pub returns : goal.returns
 returns c =
     let a = c.args in
     let s : List ℕ = a.s.now in
-    let f : List ℕ → List ℕ = crypted a.back a.keys a.nr in
+    let f : List ℕ → List ℕ = crypted a.back a.keys.keys a.keys.rounds in
     let pass : List ℕ → List ℕ = on_blocks (map f) in
     let masks : List ℕ → List ℕ = on_blocks (masked a.l) in
-    let h : 16 ≤ length s = c.requires.2 in
+    let h : 16 ≤ length s = c.requires in
     c.mask-2.ensures.1
     ∙ ap masks
     (c.crypt_blocks-2.ensures ∙ ap pass (c.mix.ensures ∙ ap (mixed f a.t) (c.crypt_blocks.ensures ∙ ap pass c.mask.ensures.1)))
-    ∙ wide_passes f (length-crypted a.back a.keys a.nr) a.l a.t s (array_block a.l _ c.well_formed.1.1.1.0).size h
+    ∙ wide_passes f (length-crypted a.back a.keys.keys a.keys.rounds) a.l a.t s (array_block a.l _ c.well_formed.1.1.0).size h
