@@ -1,10 +1,12 @@
 -- 01, the store: what check answers, for every input, and that this determines it. The store is s.
 -- Assumes nothing.
-use Rattle.std.specs.Prelude.{Bool, cond, not, ◌&&◌, ◌||◌, ◌≡◌, List, ℕ, eqb, ltb}
+use Rattle.std.specs.Prelude.{Bool, cond, not, ◌&&◌, ◌||◌, ◌≡◌, List, Option, Some, None, Result, Ok, Err, ℕ, eqb, ltb}
 use Rattle.std.proofs.Common.{sym, ◌∙◌}
+use Rattle.numbers.specs.declared.Refusal.{Refusal}
 use Rattle.numbers.specs.declared.Refusal.TheVariants.{StoreLength}
 use Rattle.records.specs.Record.{num, mark, sound}
 use Rattle.slots.specs.Slots.{slots, slot, lowest, tally, find, bad_size}
+use Rattle.checking.specs.declared.Counts.{Counts}
 use Rattle.checking.specs.declared.Checked.{Checked}
 use Rattle.checking.specs.declared.Checked.TheVariants as checked
 
@@ -15,6 +17,10 @@ faulty s k = not (sound (slot s k)) || (not (eqb (num (slot s k)) 0) && ltb (fin
 -- the lowest faulty slot, or the count of slots
 unfoldable pub first_fault : List ℕ → ℕ
 first_fault s = lowest (faulty s) (slots s)
+
+-- the same, and none where no slot is faulty
+abbrev pub fault : List ℕ → Option ℕ
+fault s = let k : ℕ = first_fault s in cond (ltb k (slots s)) (Some k) None
 
 -- used, and used with mark m
 abbrev pub used : List ℕ → Bool
@@ -27,15 +33,26 @@ marked m r = used r && eqb (mark r) m
 unfoldable pub counted : (List ℕ → Bool) → List ℕ → ℕ
 counted p s = tally (λ k. p (slot s k)) (slots s)
 
-abbrev pub counts : List ℕ → Checked
-counts s = checked.Counts (counted used s) (counted (λ r. not (used r)) s) (counted (marked 0) s) (counted (marked 1) s) (counted (marked 2) s)
+-- the five counts: used, free, and used with each mark
+abbrev pub five : List ℕ → Counts
+five s =
+    record {
+      used = counted used s;
+      free = counted (λ r. not (used r)) s;
+      clear = counted (marked 0) s;
+      old = counted (marked 1) s;
+      new = counted (marked 2) s;
+    }
 
-unfoldable pub check_answer : List ℕ → Checked
-check_answer s = cond (bad_size s) (checked.Refused StoreLength) (cond (ltb (first_fault s) (slots s)) (checked.Fault (first_fault s)) (counts s))
+abbrev pub counts : List ℕ → Result Checked Refusal
+counts s = Ok (checked.Counts (five s))
+
+unfoldable pub check_answer : List ℕ → Result Checked Refusal
+check_answer s = cond (bad_size s) (Err StoreLength) (cond (ltb (first_fault s) (slots s)) (Ok (checked.Fault (first_fault s))) (counts s))
 
 -- what check promises
-abbrev pub CheckCalled : List ℕ → Checked → Type 0
+abbrev pub CheckCalled : List ℕ → Result Checked Refusal → Type 0
 CheckCalled s a = a ≡ check_answer s
 
-pub check_determined : (s : List ℕ) (a a' : Checked) → CheckCalled s a → CheckCalled s a' → a ≡ a'
+pub check_determined : (s : List ℕ) (a a' : Result Checked Refusal) → CheckCalled s a → CheckCalled s a' → a ≡ a'
 check_determined s a a' p q = p ∙ sym q

@@ -3,60 +3,50 @@
 // Contracts cite `specs/Check.antt`.
 #![tactic(auto)]
 
-ghost use Rattle.std.specs.Prelude.{◌≡◌, ◌<◌};
-ghost use Rattle.slots.specs.Slots.{slots, slot};
-ghost use Rattle.checking.specs.Check.{faulty, first_fault, used, marked, counted, CheckCalled};
+ghost use Rattle.std.specs.Prelude.{◌≡◌, ◌<◌, ◌≤◌};
+ghost use Rattle.records.specs.Marks.{mark_byte};
+ghost use Rattle.slots.specs.Slots.{slots};
+ghost use Rattle.checking.specs.Check.{faulty, fault, used, marked, counted, five, CheckCalled};
 
 use numbers::Refusal;
-use slots::{bad_size, count, number_at, record_at};
+use records::RECORD_SIZE;
+use records::marks::Mark;
+use slots::{bad_size, count, record_at, records_of};
 
-// What check answers: the five counts of a sound store, or the lowest faulty slot.
-#[derive(Clone, Copy)]
-pub enum Checked {
-    Counts {
-        used: u32,
-        free: u32,
-        clear: u32,
-        old: u32,
-        new: u32,
-    },
-    Fault(u32),
-    Refused(Refusal),
+// How many slots are used and free, and how many are used with each mark.
+#[derive(Clone, Copy, PartialEq, Eq)]
+pub struct Counts {
+    pub used: u32,
+    pub free: u32,
+    pub clear: u32,
+    pub old: u32,
+    pub new: u32,
 }
 
-pub fn check(store: &[u8]) -> Checked
+// What check answers: the five counts of a sound store, or the lowest faulty slot.
+#[derive(Clone, Copy, PartialEq, Eq)]
+pub enum Checked {
+    Counts(Counts),
+    Fault(u32),
+}
+
+pub fn check(store: &[u8]) -> Result<Checked, Refusal>
     ensures { CheckCalled store.now result }
 {
     if bad_size(store) {
-        return Checked::Refused(Refusal::StoreLength);
+        return Err(Refusal::StoreLength);
     }
-    let k = first_fault(store);
-    if k < count(store) {
-        return Checked::Fault(k as u32);
-    }
-    let n = used_slots(store);
-    Checked::Counts {
-        used: n as u32,
-        free: (count(store) - n) as u32,
-        clear: marked_slots(store, 0) as u32,
-        old: marked_slots(store, 1) as u32,
-        new: marked_slots(store, 2) as u32,
+    match first_fault(store) {
+        Some(k) => Ok(Checked::Fault(k as u32)),
+        None => Ok(Checked::Counts(five_counts(store))),
     }
 }
 
-// The lowest faulty slot, or the count of slots.
-fn first_fault(store: &[u8]) -> usize
-    ensures { result ≡ first_fault store.now }
+// The lowest faulty slot.
+fn first_fault(store: &[u8]) -> Option<usize>
+    ensures { result ≡ fault store.now }
 {
-    let c = count(store);
-    let mut k = 0;
-    while k < c {
-        if is_faulty(store, k) {
-            return k;
-        }
-        k += 1;
-    }
-    c
+    (0..count(store)).find(|k| is_faulty(store, *k))
 }
 
 // Whether slot k is unsound, or repeats a lower slot's number other than 0.
@@ -72,44 +62,45 @@ fn is_faulty(store: &[u8], k: usize) -> bool
     if n == 0 {
         return false;
     }
-    slots::find(store, n) < k
+    slots::find(store, n).is_some_and(|lowest| lowest < k)
+}
+
+fn five_counts(store: &[u8]) -> Counts
+    requires { slots store.now ≤ 1024 }
+    ensures { result ≡ five store.now }
+{
+    let used = used_slots(store);
+    Counts {
+        used: used as u32,
+        free: (count(store) - used) as u32,
+        clear: marked_slots(store, Mark::Clear) as u32,
+        old: marked_slots(store, Mark::Old) as u32,
+        new: marked_slots(store, Mark::New) as u32,
+    }
 }
 
 // How many slots are used.
 fn used_slots(store: &[u8]) -> usize
     ensures { result ≡ counted used store.now }
 {
-    let c = count(store);
-    let mut n = 0;
-    let mut k = 0;
-    while k < c {
-        n = if number_at(store, k) == 0 { n } else { n + 1 };
-        k += 1;
-    }
-    n
+    records_of(store).iter().filter(|r| is_used(r)).count()
 }
 
 // How many slots are used with mark m.
-fn marked_slots(store: &[u8], m: u8) -> usize
-    ensures { result ≡ counted (marked m) store.now }
+fn marked_slots(store: &[u8], m: Mark) -> usize
+    ensures { result ≡ counted (marked (mark_byte m)) store.now }
 {
-    let c = count(store);
-    let mut n = 0;
-    let mut k = 0;
-    while k < c {
-        n = if has_mark(store, k, m) { n + 1 } else { n };
-        k += 1;
-    }
-    n
+    records_of(store).iter().filter(|r| has_mark(r, m)).count()
 }
 
-fn has_mark(store: &[u8], k: usize, m: u8) -> bool
-    requires { k < slots store.now }
-    ensures { result ≡ marked m (slot store.now k) }
+fn is_used(r: &[u8; RECORD_SIZE]) -> bool
+    ensures { result ≡ used r.now }
 {
-    let r = record_at(store, k);
-    if records::number(r) == 0 {
-        return false;
-    }
-    records::mark(r) == m
+    records::number(r) != 0
+}
+
+fn has_mark(r: &[u8; RECORD_SIZE], m: Mark) -> bool
+    ensures { result ≡ marked (mark_byte m) r.now }
+{
+    is_used(r) && records::mark(r) == u8::from(m)
 }

@@ -1,4 +1,4 @@
-// The fields of a record, and whether it is sound.
+// The fields of a record, and whether it is sound. A field is read of a lead alone too, so of a slice; the whole record is an array.
 ghost use Rattle.std.specs.Prelude.{◌≡◌, ◌≤◌, length};
 ghost use Rattle.records.specs.Record.{num, rev, mark, len, all_zero, sound_used, sound};
 
@@ -19,7 +19,7 @@ pub fn revision(r: &[u8]) -> u32
     u32::from_le_bytes([r[4], r[5], r[10], r[11]])
 }
 
-// 0 clear, 1 old key, 2 new key; in an unsound record anything.
+// The byte of a `Mark`, and in an unsound record anything, which is why it is a number.
 pub fn mark(r: &[u8]) -> u8
     requires { 16 ≤ length r.now }
     ensures { result ≡ mark r.now }

@@ -12,7 +12,7 @@ pub mod marks;
 mod writing;
 
 pub use fields::{is_sound, mark, number, revision, text_length};
-pub use writing::{clear, write};
+pub use writing::write;
 
 // 01: records of 2,112 bytes.
 pub const RECORD_SIZE: usize = 2112;

@@ -6,8 +6,8 @@ use mathlib.Core.Bool.{Bool, true, false, cond, not}
 use mathlib.Core.List.{List, []}
 use Prim.Native.Nat.{ℕ, zero, suc, ◌+◌, ◌-◌, ◌≤◌, ◌<◌}
 use Rattle.std.proofs.Common.{Some, None, ltb-true, ltb-false, lt-ltb, le-ltb}
-use Rattle.std.specs.List.{position_or_len, position}
-use Rattle.std.proofs.lemmas.List.Sums.{position_or_len_is}
+use Rattle.std.specs.List.{position_or_len, position, count_by}
+use Rattle.std.proofs.lemmas.List.Sums.{position_or_len_is, sum_by-cons}
 use native.Mathlib.Nat.{eq-or-lt_of_le}
 use native.Mathlib.Numerals.{add-one}
 use native.Mathlib.Omega.{arith}
@@ -197,36 +197,56 @@ position_tab p c r =
     let m : position_or_len p (tab c r) ≡ lowest t c = position_or_len_is p (tab c r) (lowest t c) [] (omega (arith, lowest_le t c)) below here in
     ap₂ (λ (k n : ℕ). cond (ltb k n) (Some k) None) m l
 
-module _ (s : List ℕ) (n : ℕ) where
-  found_at : find s n < slots s → found s n ≡ Some (find s n)
-  found_at h = ap (λ (t : Bool). cond t (Some (find s n)) None) (lt-ltb (find s n) (slots s) h)
+-- the place m as an answer, and none where it is not below n
+module _ (m n : ℕ) where
+  pub place_some : m < n → cond (ltb m n) (Some m) None ≡ Some m
+  place_some h = ap (λ (t : Bool). cond t (Some m) None) (lt-ltb m n h)
 
-  found_out : slots s ≤ find s n → found s n ≡ None
-  found_out h = ap (λ (t : Bool). cond t (Some (find s n)) None) (le-ltb (find s n) (slots s) h)
+  pub place_none : n ≤ m → cond (ltb m n) (Some m) None ≡ None
+  place_none h = ap (λ (t : Bool). cond t (Some m) None) (le-ltb m n h)
 
-  -- what a search that found slot k, and one that found none, say
-  pub found_some : (k : ℕ) → found s n ≡ Some k → (k ≡ find s n) × (k < slots s)
-  found_some k e = by_test (ltb (find s n) (slots s)) refl
+  -- what the answer says
+  pub some_place : (k : ℕ) → cond (ltb m n) (Some m) None ≡ Some k → (k ≡ m) × (k < n)
+  some_place k e = by_test (ltb m n) refl
     where
-      by_test : (t : Bool) → ltb (find s n) (slots s) ≡ t → (k ≡ find s n) × (k < slots s)
+      by_test : (t : Bool) → ltb m n ≡ t → (k ≡ m) × (k < n)
       by_test true q =
-          let l : find s n < slots s = ltb-true (find s n) (slots s) q in
-          let f : Some (find s n) ≡ Some k = sym (found_at l) ∙ e in
-          let g : find s n ≡ k = cc in
+          let l : m < n = ltb-true m n q in
+          let f : Some m ≡ Some k = sym (place_some l) ∙ e in
+          let g : m ≡ k = cc in
           (sym g, omega arith)
       by_test false q =
-          let l : slots s ≤ find s n = ltb-false (find s n) (slots s) q in
-          let f : None ≡ Some k = sym (found_out l) ∙ e in
+          let l : n ≤ m = ltb-false m n q in
+          let f : None ≡ Some k = sym (place_none l) ∙ e in
           cc
 
-  pub found_none : found s n ≡ None → find s n ≡ slots s
-  found_none e = by_test (ltb (find s n) (slots s)) refl
+  pub none_place : cond (ltb m n) (Some m) None ≡ None → n ≤ m
+  none_place e = by_test (ltb m n) refl
     where
-      by_test : (t : Bool) → ltb (find s n) (slots s) ≡ t → find s n ≡ slots s
+      by_test : (t : Bool) → ltb m n ≡ t → n ≤ m
       by_test true q =
-          let l : find s n < slots s = ltb-true (find s n) (slots s) q in
-          let f : Some (find s n) ≡ None = sym (found_at l) ∙ e in
+          let l : m < n = ltb-true m n q in
+          let f : Some m ≡ None = sym (place_some l) ∙ e in
           cc
-      by_test false q =
-          let l : slots s ≤ find s n = ltb-false (find s n) (slots s) q in
-          omega (arith, find_le (slots s) (slot s) n)
+      by_test false q = ltb-false m n q
+
+module _ (s : List ℕ) (n : ℕ) where
+  -- what a search that found slot k, and one that found none, say
+  pub found_some : (k : ℕ) → found s n ≡ Some k → (k ≡ find s n) × (k < slots s)
+  found_some k e = some_place (find s n) (slots s) k e
+
+  pub found_none : found s n ≡ None → find s n ≡ slots s
+  found_none e = omega (arith, none_place (find s n) (slots s) e, find_le (slots s) (slot s) n)
+
+-- the records that pass the test p, counted
+pub count_tab : (p : List ℕ → Bool) (c : ℕ) (r : ℕ → List ℕ) → count_by p (tab c r) ≡ tally (λ k. p (r k)) c
+unfolding tally
+count_tab p zero r = refl
+count_tab p (suc c) r =
+    sum_by-cons (λ (x : List ℕ). cond (p x) 1 0) (r 0) (tab c (λ k. r (suc k)))
+    ∙ ap (λ (n : ℕ). cond (p (r 0)) 1 0 + n) (count_tab p c (λ k. r (suc k)))
+    ∙ tally_first (λ k. p (r k)) c
+  where
+    tally_first : (q : ℕ → Bool) (n : ℕ) → cond (q 0) 1 0 + tally (λ k. q (suc k)) n ≡ tally q (suc n)
+    tally_first q zero = omega arith
+    tally_first q (suc n) = omega (arith, tally_first q n)

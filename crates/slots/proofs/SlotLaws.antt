@@ -2,13 +2,13 @@
 -- Assumes nothing.
 use mathlib.Core.Path.{◌≡◌, refl, sym, ap, ap₂, ◌∙◌}
 use mathlib.Core.Bool.{false, not}
-use mathlib.Core.List.{List, ◌∷◌, ◌++◌}
+use mathlib.Core.List.{List, ◌∷◌}
 use Prim.Native.Nat.{ℕ, zero, suc, ◌+◌, ◌-◌, ◌*◌, ◌%◌, ◌≤◌, ◌<◌}
 use native.Mathlib.Omega.{arith}
 use borrow.Author.Tests.{ltb-false, eqb-true, not-false}
 use borrow.Rule.Slice.PartMut.{put_mid}
 use lib.Dec.{eqb, ltb}
-use lib.ListN.{length, take, drop, replicate}
+use lib.ListN.{length, take, drop}
 use lib.Seq.{drop-drop}
 use Rattle.std.specs.Simd.{first_chunks}
 use Rattle.block.specs.Tab.{tab}
@@ -18,7 +18,7 @@ use Rattle.block.proofs.PartLaws.{part_changed}
 use Rattle.block.proofs.TabLaws.{tab_ext}
 use Rattle.block.proofs.BoolLaws.{neither}
 use Rattle.records.specs.Record.{record_size}
-use Rattle.slots.specs.Slots.{slots, slot, put, emptied, bad_size}
+use Rattle.slots.specs.Slots.{slots, slot, put, bad_size}
 
 -- the part of s from k * record_size on that the code takes for slot k
 pub slot_part : (s : List ℕ) (k : ℕ) → take (k * record_size + record_size - k * record_size) (drop (k * record_size) s) ≡ slot s k
@@ -34,12 +34,6 @@ length-slot s k h = length-row record_size s k (omega arith)
 pub slot_changed : (s : List ℕ) (k : ℕ) (x : List ℕ) → put_mid (k * record_size) (k * record_size + record_size - k * record_size) s x ≡ put s k x
 unfolding put_row
 slot_changed s k x = part_changed (k * record_size) (k * record_size + record_size) s x (omega arith)
-
--- a record made all zeros
-pub emptying : (r : List ℕ) → length r ≡ record_size → take 0 r ++ replicate (length r - 0) 0 ≡ emptied
-emptying r h =
-    let n : length r - 0 ≡ record_size = omega arith in
-    ap (λ (j : ℕ). replicate {A = ℕ} j 0) n
 
 -- ---- the slots one after the other, as the chunks of a record's size
 

@@ -6,19 +6,15 @@
 
 ghost use Rattle.std.specs.Prelude.{◌≡◌, ◌<◌};
 ghost use Rattle.block.specs.Tab.{tab};
-ghost use Rattle.records.specs.Record.{num};
 ghost use Rattle.slots.specs.Slots.{slots, slot, put, emptied, found, bad_size};
 
-use records::{RECORD_SIZE, clear, number};
+use records::{RECORD_SIZE, number};
 
 // 01's 4: not a whole number of records, or over 1,024.
 pub fn bad_size(s: &[u8]) -> bool
     ensures { result ≡ bad_size s.now }
 {
-    if s.len() % RECORD_SIZE != 0 {
-        return true;
-    }
-    s.len() / RECORD_SIZE > 1024
+    s.len() % RECORD_SIZE != 0 || s.len() / RECORD_SIZE > 1024
 }
 
 pub fn count(s: &[u8]) -> usize
@@ -42,13 +38,6 @@ pub fn record_at(s: &[u8], k: usize) -> &[u8; RECORD_SIZE]
     &records_of(s)[k]
 }
 
-pub fn number_at(s: &[u8], k: usize) -> u32
-    requires { k < slots s.now }
-    ensures { result ≡ num (slot s.now k) }
-{
-    number(record_at(s, k))
-}
-
 // The lowest slot with sheet number n.
 pub fn find(s: &[u8], n: u32) -> Option<usize>
     ensures { result ≡ found s.now n }
@@ -63,5 +52,5 @@ pub fn empty(s: &mut [u8], k: usize)
 {
     let at = k * RECORD_SIZE;
     let end = at + RECORD_SIZE;
-    clear(&mut s[at..end], 0);
+    s[at..end].fill(0);
 }

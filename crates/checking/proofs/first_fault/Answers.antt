@@ -1,36 +1,14 @@
--- `checking::first_fault` meets its contract: what is left to look at decides.
+-- `checking::first_fault` meets its contract: the first slot that is faulty is the lowest.
 -- Assumes nothing.
-use mathlib.Core.Path.{◌≡◌, sym, ◌∙◌}
-use mathlib.Core.List.{List}
-use Prim.Native.Nat.{ℕ}
-use native.Mathlib.Omega.{arith}
-use Rattle.slots.proofs.FindLaws.{scan_step, scan_found, scan_end}
+use Rattle.std.proofs.Common.{rules, ◌≡◌, ℕ, true, false}
+use Rattle.std.proofs.lemmas.Iterator.{first_from_Range}
 use Rattle.checking.specs.Check.{faulty}
-use Rattle.checking.proofs.CheckLaws.{fault_start}
+use Rattle.checking.proofs.CheckLaws.{fault_from}
 use Rattle.checking.proofs.first_fault.Goals as goal
-
-pub loop-k-init : goal.loop-k-init
-loop-k-init c =
-    (c.count-c.ensures, omega arith, fault_start c.args.store.now c.count-c.result c.count-c.ensures)
-
-pub returns-then-is_faulty : goal.returns-then-is_faulty
-returns-then-is_faulty c =
-    let s : List ℕ = c.args.store.now in
-    sym
-    (c.loop-k.invariant.2
-    ∙ scan_found (faulty s) c.loop-k.k c.count-c.result (omega arith) (sym c.is_faulty.ensures ∙ c.if-is_faulty.true))
-
-pub loop-k-preserved : goal.loop-k-preserved
-loop-k-preserved c =
-    let s : List ℕ = c.args.store.now in (
-      c.loop-k.invariant.0,
-      omega arith,
-      c.loop-k.invariant.2
-          ∙ scan_step (faulty s) c.loop-k.k c.count-c.result (omega arith) (sym c.is_faulty.ensures ∙ c.if-is_faulty.false),
-    )
 
 pub returns : goal.returns
 returns c =
-    let s : List ℕ = c.args.store.now in
-    let e : c.loop-k.k ≡ c.count-c.result = omega arith in
-    sym (c.loop-k.invariant.2 ∙ scan_end (faulty s) c.loop-k.k c.count-c.result (omega arith) ∙ e)
+    let s = c.args.store.now in
+    fault_from s c.count.result c.count.ensures c.find.result
+    (first_from_Range _ _ _ c.find.result (λ (k : ℕ). faulty s k ≡ true) (λ (k : ℕ). faulty s k ≡ false) c.find.ensures.ran
+    (λ x q k. search rules) (λ x q k. search rules))
