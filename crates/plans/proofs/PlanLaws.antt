@@ -6,27 +6,26 @@ use mathlib.Core.Bool.{Bool, true, false, not}
 use mathlib.Core.List.{List}
 use Prim.Native.Nat.{ℕ, ◌≤◌, ◌<◌}
 use native.Mathlib.Omega.{arith}
-use borrow.Author.Tests.{ltb-false, eqb-true, eqb-false, eq-eqb, ne_eqb, not-false}
+use borrow.Author.Tests.{ltb-true, ltb-false, eqb-true, eqb-false, eq-eqb, ne_eqb, not-false}
 use lib.Dec.{eqb, ltb}
 use lib.ListN.{length}
+use Rattle.std.specs.Prelude.{Ok, Err, Some, None, ok_or, is_some, cond}
 use Rattle.block.specs.Bytes.{Bytes}
 use Rattle.block.proofs.BoolLaws.{neither}
 use Rattle.numbers.specs.declared.Refusal.{Refusal}
 use Rattle.numbers.specs.declared.Refusal.TheVariants.{SheetZero, TextLength, NoSheet, OtherRevision, LastRevision, NoFreeSlot, SheetPresent, BufferLength}
 use Rattle.records.specs.Record.{record_size, text_most, greatest_revision, num, rev, len, sound}
 use Rattle.records.proofs.FieldLaws.{sound_len}
-use Rattle.slots.specs.Slots.{slots, slot, find_by, find, bad_size}
+use Rattle.slots.specs.Slots.{slots, slot, find_by, find, found, bad_size}
 use Rattle.slots.proofs.FindLaws.{find_le, find_has}
 use Rattle.sheets.specs.Text.{text_of}
 use Rattle.sheets.proofs.TextLaws.{length-text_of}
-use Rattle.plans.specs.declared.Plan.{Plan}
-use Rattle.plans.specs.declared.Plan.TheVariants.{Refuse, At}
-use Rattle.plans.specs.Plans.{guard, bad_keys, bad_length, bad_text, absent, read_at_plan, read_from, add_from, revise_at_plan, revise_from, remove_from}
+use Rattle.plans.specs.Plans.{Plan, guard, bad_keys, bad_length, bad_text, absent, read_at_plan, read_from, add_from, revise_at_plan, revise_from, remove_from}
 use Rattle.plans.specs.Plans.{opened, read_plan, add_plan, revise_plan, remove_plan, step_plan}
 
 -- ---- one rung
 
-pub yes : (b : Bool) (x : Refusal) (p : Plan) → b ≡ true → guard b x p ≡ Refuse x
+pub yes : (b : Bool) (x : Refusal) (p : Plan) → b ≡ true → guard b x p ≡ Err x
 unfolding guard
 yes b x p e = ap (λ (t : Bool). guard t x p) e
 
@@ -40,27 +39,18 @@ unfolding guard
 past true x p q h = refl
 past false x p q h = h refl
 
-never : (x : Refusal) (k : ℕ) → Refuse x ≡ At k → ⊥
-never x k e = let z : ◌≡◌ {A = ℕ} 0 1 = ap ends e in omega arith
-  where
-    ends : Plan → ℕ
-    ends (Refuse y) = 0
-    ends (At j) = 1
+never : (x : Refusal) (k : ℕ) → ◌≡◌ {A = Plan} (Err x) (Ok k) → ⊥
+never x k e = cc
 
-slot_of : Plan → ℕ
-slot_of (Refuse x) = 0
-slot_of (At k) = k
+pub same_slot : (j k : ℕ) → ◌≡◌ {A = Plan} (Ok j) (Ok k) → j ≡ k
+same_slot j k e = cc
 
-pub same_slot : (j k : ℕ) → At j ≡ At k → j ≡ k
-unfolding slot_of
-same_slot j k e = ap slot_of e
-
-pub passed : (b : Bool) (x : Refusal) (p : Plan) (k : ℕ) → guard b x p ≡ At k → (b ≡ false) × (p ≡ At k)
+pub passed : (b : Bool) (x : Refusal) (p : Plan) (k : ℕ) → guard b x p ≡ Ok k → (b ≡ false) × (p ≡ Ok k)
 unfolding guard
 passed true x p k e = absurd (never x k e)
 passed false x p k e = (refl, e)
 
-two : (a b : Bool) (y z x : Refusal) (p : Plan) (j : ℕ) → guard a y (guard b z (At j)) ≡ Refuse x → guard a y (guard b z p) ≡ Refuse x
+two : (a b : Bool) (y z x : Refusal) (p : Plan) (j : ℕ) → guard a y (guard b z (Ok j)) ≡ Err x → guard a y (guard b z p) ≡ Err x
 unfolding guard
 two true b y z x p j e = e
 two false true y z x p j e = e
@@ -73,7 +63,7 @@ module _ (o w s : List ℕ) where
   unfolding opened
   opened_no a b p = no _ _ _ a ∙ no _ _ _ b
 
-  pub opened_at : (p : Plan) (k : ℕ) → opened o w s p ≡ At k → (bad_keys o w ≡ false) × (bad_size s ≡ false) × (p ≡ At k)
+  pub opened_at : (p : Plan) (k : ℕ) → opened o w s p ≡ Ok k → (bad_keys o w ≡ false) × (bad_size s ≡ false) × (p ≡ Ok k)
   unfolding opened
   opened_at p k e =
       let a = passed _ _ _ k e in
@@ -81,10 +71,10 @@ module _ (o w s : List ℕ) where
       (a.0, b.0, b.1)
 
   -- whatever follows them, they let through or refuse
-  pub opened_through : (p : Plan) (j k : ℕ) → opened o w s (At j) ≡ At k → opened o w s p ≡ p
-  opened_through p j k e = let a = opened_at (At j) k e in opened_no a.0 a.1 p
+  pub opened_through : (p : Plan) (j k : ℕ) → opened o w s (Ok j) ≡ Ok k → opened o w s p ≡ p
+  opened_through p j k e = let a = opened_at (Ok j) k e in opened_no a.0 a.1 p
 
-  pub opened_refused : (p : Plan) (j : ℕ) (x : Refusal) → opened o w s (At j) ≡ Refuse x → opened o w s p ≡ Refuse x
+  pub opened_refused : (p : Plan) (j : ℕ) (x : Refusal) → opened o w s (Ok j) ≡ Err x → opened o w s p ≡ Err x
   unfolding opened
   opened_refused p j x e = two (bad_keys o w) (bad_size s) _ _ x p j e
 
@@ -99,6 +89,28 @@ module _ (c : ℕ) (r : ℕ → List ℕ) (n : ℕ) where
   pub present : find_by c r n < c → absent c r n ≡ false
   present h = ne_eqb (find_by c r n) c (λ q. let z : ⊥ = omega arith in z)
 
+-- a search that refuses with x where it finds no slot, and one whose answer is a test
+module _ (s : List ℕ) (n : ℕ) where
+  by_search : (x : Refusal) (t : Bool) → ltb (find s n) (slots s) ≡ t
+      → (ok_or (found s n) x ≡ cond (absent (slots s) (slot s) n) (Err x) (Ok (find s n))) × (is_some (found s n) ≡ not (absent (slots s) (slot s) n))
+  by_search x true e =
+      let a : absent (slots s) (slot s) n ≡ false = present (slots s) (slot s) n (ltb-true (find s n) (slots s) e) in (
+        ap (λ (t : Bool). ok_or (cond t (Some (find s n)) None) x) e ∙ sym (ap (λ (t : Bool). cond t (Err x) (Ok (find s n))) a),
+        ap (λ (t : Bool). is_some (cond t (Some (find s n)) None)) e ∙ sym (ap not a),
+      )
+  by_search x false e =
+      let h : slots s ≤ find s n = ltb-false (find s n) (slots s) e in
+      let a : absent (slots s) (slot s) n ≡ true = eq-eqb (find s n) (slots s) (omega (arith, find_le (slots s) (slot s) n)) in (
+        ap (λ (t : Bool). ok_or (cond t (Some (find s n)) None) x) e ∙ sym (ap (λ (t : Bool). cond t (Err x) (Ok (find s n))) a),
+        ap (λ (t : Bool). is_some (cond t (Some (find s n)) None)) e ∙ sym (ap not a),
+      )
+
+  pub found_or : (x : Refusal) → ok_or (found s n) x ≡ cond (absent (slots s) (slot s) n) (Err x) (Ok (find s n))
+  found_or x = (by_search x (ltb (find s n) (slots s)) refl).0
+
+  pub found_any : is_some (found s n) ≡ not (absent (slots s) (slot s) n)
+  found_any = (by_search NoSheet (ltb (find s n) (slots s)) refl).1
+
 -- place k holds sheet n, which is not 0, and no lower one does
 pub record Found (c : ℕ) (r : ℕ → List ℕ) (n k : ℕ) : Type 0 where
   pub some : n ≡ 0 → ⊥
@@ -106,8 +118,8 @@ pub record Found (c : ℕ) (r : ℕ → List ℕ) (n k : ℕ) : Type 0 where
   pub within : k < c
   pub number : num (r k) ≡ n
 
-found : (c : ℕ) (r : ℕ → List ℕ) (n k : ℕ) → eqb n 0 ≡ false → absent c r n ≡ false → find_by c r n ≡ k → Found c r n k
-found c r n k z a f =
+found_at : (c : ℕ) (r : ℕ → List ℕ) (n k : ℕ) → eqb n 0 ≡ false → absent c r n ≡ false → find_by c r n ≡ k → Found c r n k
+found_at c r n k z a f =
     record {
       some = eqb-false n 0 z;
       place = f;
@@ -140,7 +152,7 @@ module _ (c : ℕ) (r : ℕ → List ℕ) (n : ℕ) (some : n ≡ 0 → ⊥) whe
   missing : find_by c r n ≡ c → absent c r n ≡ true
   missing h = eq-eqb (find_by c r n) c h
 
-  pub read_none : (o w : List ℕ) (b : ℕ) → find_by c r n ≡ c → read_from c r o w n b ≡ Refuse NoSheet
+  pub read_none : (o w : List ℕ) (b : ℕ) → find_by c r n ≡ c → read_from c r o w n b ≡ Err NoSheet
   unfolding read_from
   read_none o w b h = no _ _ _ (ne_eqb n 0 some) ∙ yes _ _ _ (missing h)
 
@@ -148,24 +160,24 @@ module _ (c : ℕ) (r : ℕ → List ℕ) (n : ℕ) (some : n ≡ 0 → ⊥) whe
   unfolding read_from
   read_found o w b h = no _ _ _ (ne_eqb n 0 some) ∙ no _ _ _ (present c r n h)
 
-  pub remove_none : find_by c r n ≡ c → remove_from c r n ≡ Refuse NoSheet
+  pub remove_none : find_by c r n ≡ c → remove_from c r n ≡ Err NoSheet
   unfolding remove_from
   remove_none h = no _ _ _ (ne_eqb n 0 some) ∙ yes _ _ _ (missing h)
 
-  pub remove_found : find_by c r n < c → remove_from c r n ≡ At (find_by c r n)
+  pub remove_found : find_by c r n < c → remove_from c r n ≡ Ok (find_by c r n)
   unfolding remove_from
   remove_found h = no _ _ _ (ne_eqb n 0 some) ∙ no _ _ _ (present c r n h)
 
   module _ (l : ℕ) (long : bad_length l ≡ false) where
-    pub add_taken : find_by c r n < c → add_from c r n l ≡ Refuse SheetPresent
+    pub add_taken : find_by c r n < c → add_from c r n l ≡ Err SheetPresent
     unfolding add_from
     add_taken h = no _ _ _ (ne_eqb n 0 some) ∙ no _ _ _ long ∙ yes _ _ _ (ap not (present c r n h))
 
-    pub add_new : find_by c r n ≡ c → add_from c r n l ≡ guard (absent c r 0) NoFreeSlot (At (find_by c r 0))
+    pub add_new : find_by c r n ≡ c → add_from c r n l ≡ guard (absent c r 0) NoFreeSlot (Ok (find_by c r 0))
     unfolding add_from
     add_new h = no _ _ _ (ne_eqb n 0 some) ∙ no _ _ _ long ∙ no _ _ _ (ap not (missing h))
 
-    pub revise_none : (v : ℕ) → find_by c r n ≡ c → revise_from c r n v l ≡ Refuse NoSheet
+    pub revise_none : (v : ℕ) → find_by c r n ≡ c → revise_from c r n v l ≡ Err NoSheet
     unfolding revise_from
     revise_none v h = no _ _ _ (ne_eqb n 0 some) ∙ no _ _ _ long ∙ yes _ _ _ (missing h)
 
@@ -182,7 +194,7 @@ pub record Reads (o w s : List ℕ) (n b k : ℕ) : Type 0 where
   pub whole : sound (slot s k) ≡ true
   pub room : len (slot s k) ≤ b
 
-pub read_says : (o w s : List ℕ) (n b k : ℕ) → read_plan o w s n b ≡ At k → Reads o w s n b k
+pub read_says : (o w s : List ℕ) (n b k : ℕ) → read_plan o w s n b ≡ Ok k → Reads o w s n b k
 unfolding read_from read_at_plan
 read_says o w s n b k e =
     let p = opened_at o w s (read_from (slots s) (slot s) o w n b) k e in
@@ -195,7 +207,7 @@ read_says o w s n b k e =
     record {
       keys = p.0;
       size = p.1;
-      at = found (slots s) (slot s) n k p1.0 p2.0 f;
+      at = found_at (slots s) (slot s) n k p1.0 p2.0 f;
       whole = sym (ap (λ (j : ℕ). sound (slot s j)) f) ∙ not-false (sound (slot s (find s n))) p3.0;
       room = omega (arith, ap (λ (j : ℕ). len (slot s j)) f, ltb-false b (len (slot s (find s n))) p4.0);
     }
@@ -211,7 +223,7 @@ pub record Adds (o w s : List ℕ) (n : ℕ) (t : List ℕ) (k : ℕ) : Type 0 w
   pub within : k < slots s
   pub free : num (slot s k) ≡ 0
 
-pub add_says : (o w s : List ℕ) (n : ℕ) (t : List ℕ) (k : ℕ) → add_plan o w s n t ≡ At k → Adds o w s n t k
+pub add_says : (o w s : List ℕ) (n : ℕ) (t : List ℕ) (k : ℕ) → add_plan o w s n t ≡ Ok k → Adds o w s n t k
 unfolding add_from
 add_says o w s n t k e =
     let p = opened_at o w s (add_from (slots s) (slot s) n (length t)) k e in
@@ -247,7 +259,7 @@ pub record Revises (o w s : List ℕ) (n v : ℕ) (t : List ℕ) (k : ℕ) : Typ
   pub seen : v ≡ rev (slot s k)
   pub below : rev (slot s k) ≡ greatest_revision → ⊥
 
-pub revise_says : (o w s : List ℕ) (n v : ℕ) (t : List ℕ) (k : ℕ) → revise_plan o w s n v t ≡ At k → Revises o w s n v t k
+pub revise_says : (o w s : List ℕ) (n v : ℕ) (t : List ℕ) (k : ℕ) → revise_plan o w s n v t ≡ Ok k → Revises o w s n v t k
 unfolding revise_from revise_at_plan
 revise_says o w s n v t k e =
     let p = opened_at o w s (revise_from (slots s) (slot s) n v (length t)) k e in
@@ -264,36 +276,36 @@ revise_says o w s n v t k e =
       size = p.1;
       long = (text_long (length t) p2.0).0;
       fits = (text_long (length t) p2.0).1;
-      at = found (slots s) (slot s) n k p1.0 p3.0 f;
+      at = found_at (slots s) (slot s) n k p1.0 p3.0 f;
       whole = sym (ap (λ (j : ℕ). sound (slot s j)) f) ∙ not-false (sound (slot s (find s n))) p4.0;
       seen = eqb-true v (rev (slot s (find s n))) (not-false (eqb v (rev (slot s (find s n)))) p5.0) ∙ r;
       below = λ q. eqb-false (rev (slot s (find s n))) greatest_revision p6.0 (r ∙ q);
     }
 
-pub remove_says : (s : List ℕ) (n k : ℕ) → remove_plan s n ≡ At k → (bad_size s ≡ false) × Found (slots s) (slot s) n k
+pub remove_says : (s : List ℕ) (n k : ℕ) → remove_plan s n ≡ Ok k → (bad_size s ≡ false) × Found (slots s) (slot s) n k
 unfolding remove_plan remove_from
 remove_says s n k e =
     let p = passed _ _ _ k e in
     let p1 = passed _ _ _ k p.1 in
     let p2 = passed _ _ _ k p1.1 in
-    (p.0, found (slots s) (slot s) n k p1.0 p2.0 (same_slot (find s n) k p2.1))
+    (p.0, found_at (slots s) (slot s) n k p1.0 p2.0 (same_slot (find s n) k p2.1))
 
-pub step_says : (o w s : List ℕ) (k j : ℕ) → step_plan o w s k ≡ At j → k ≡ j
-step_says o w s k j e = same_slot k j (opened_at o w s (At k) j e).2
+pub step_says : (o w s : List ℕ) (k j : ℕ) → step_plan o w s k ≡ Ok j → k ≡ j
+step_says o w s k j e = same_slot k j (opened_at o w s (Ok k) j e).2
 
 -- ---- refusals: 7, 11 and 8
 
 module _ (s : List ℕ) (size : bad_size s ≡ false) (n : ℕ) (some : n ≡ 0 → ⊥) where
-  pub remove_absent : find s n ≡ slots s → remove_plan s n ≡ Refuse NoSheet
+  pub remove_absent : find s n ≡ slots s → remove_plan s n ≡ Err NoSheet
   unfolding remove_plan
   remove_absent h = no _ _ _ size ∙ remove_none (slots s) (slot s) n some h
 
   module _ (o w : List ℕ) (keys : bad_keys o w ≡ false) (t : List ℕ) (long : bad_text t ≡ false) (h : find s n < slots s) where
-    pub add_present : add_plan o w s n t ≡ Refuse SheetPresent
+    pub add_present : add_plan o w s n t ≡ Err SheetPresent
     add_present = opened_no o w s keys size (add_from (slots s) (slot s) n (length t)) ∙ add_taken (slots s) (slot s) n some (length t) long h
 
     pub revise_other : (v : ℕ) → sound (slot s (find s n)) ≡ true → (v ≡ rev (slot s (find s n)) → ⊥)
-        → revise_plan o w s n v t ≡ Refuse OtherRevision
+        → revise_plan o w s n v t ≡ Err OtherRevision
     unfolding revise_at_plan
     revise_other v e z =
         opened_no o w s keys size (revise_from (slots s) (slot s) n v (length t))
@@ -306,13 +318,13 @@ module _ (s : List ℕ) (size : bad_size s ≡ false) (n : ℕ) (some : n ≡ 0 
 module _ (c : ℕ) (r : ℕ → List ℕ) (each : (k : ℕ) → k < c → sound (r k) ≡ true) where
   pub read_sound : (o w : List ℕ) → ((k : ℕ) → k < c → (num (r k) ≡ 0 → ⊥) → length (text_of o w (r k)) ≡ len (r k)) → (n b : ℕ)
       → read_from c r o w n b
-      ≡ guard (eqb n 0) SheetZero (guard (absent c r n) NoSheet (guard (ltb b (len (r (find_by c r n)))) BufferLength (At (find_by c r n))))
+      ≡ guard (eqb n 0) SheetZero (guard (absent c r n) NoSheet (guard (ltb b (len (r (find_by c r n)))) BufferLength (Ok (find_by c r n))))
   unfolding read_from read_at_plan
   read_sound o w kept n b =
       past (eqb n 0) SheetZero _ _
       (λ z. past (absent c r n) NoSheet _ _
       (λ a.
-      let f = found c r n (find_by c r n) z a refl in
+      let f = found_at c r n (find_by c r n) z a refl in
       no _ _ _ (ap not (each (find_by c r n) f.within))
       ∙ ap (guard (ltb b (len (r (find_by c r n)))) BufferLength)
       (no _ _ _ (ap not (eq-eqb (length (text_of o w (r (find_by c r n)))) (len (r (find_by c r n))) (kept (find_by c r n) f.within (used f)))))))
@@ -323,7 +335,7 @@ module _ (c : ℕ) (r : ℕ → List ℕ) (each : (k : ℕ) → k < c → sound 
       (guard (bad_length l) TextLength
       (guard (absent c r n) NoSheet
       (guard (not (eqb v (rev (r (find_by c r n))))) OtherRevision
-      (guard (eqb (rev (r (find_by c r n))) greatest_revision) LastRevision (At (find_by c r n))))))
+      (guard (eqb (rev (r (find_by c r n))) greatest_revision) LastRevision (Ok (find_by c r n))))))
   unfolding revise_from revise_at_plan
   revise_sound n v l =
       past (eqb n 0) SheetZero _ _
@@ -335,11 +347,11 @@ module _ (c : ℕ) (r : ℕ → List ℕ) where
   pub add_rungs : (n l : ℕ)
       → add_from c r n l
       ≡ guard (eqb n 0) SheetZero
-      (guard (bad_length l) TextLength (guard (not (absent c r n)) SheetPresent (guard (absent c r 0) NoFreeSlot (At (find_by c r 0)))))
+      (guard (bad_length l) TextLength (guard (not (absent c r n)) SheetPresent (guard (absent c r 0) NoFreeSlot (Ok (find_by c r 0)))))
   unfolding add_from
   add_rungs n l = refl
 
-  pub remove_rungs : (n : ℕ) → remove_from c r n ≡ guard (eqb n 0) SheetZero (guard (absent c r n) NoSheet (At (find_by c r n)))
+  pub remove_rungs : (n : ℕ) → remove_from c r n ≡ guard (eqb n 0) SheetZero (guard (absent c r n) NoSheet (Ok (find_by c r n)))
   unfolding remove_from
   remove_rungs n = refl
 

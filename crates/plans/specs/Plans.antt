@@ -2,7 +2,7 @@
 -- What follows 1 and 4 goes by a count of places and the record at each place: those of a store are its slots. Nobody else opens a ladder:
 -- `proofs/PlanLaws.antt` says what a plan that ends at a slot says of it, and when a ladder refuses.
 -- Assumes nothing.
-use Rattle.std.specs.Prelude.{Bool, true, false, not, ◌||◌, List, ℕ, eqb, ltb, length}
+use Rattle.std.specs.Prelude.{Bool, true, false, not, ◌||◌, List, ℕ, eqb, ltb, length, Result, Ok, Err}
 use Rattle.numbers.specs.declared.Refusal.{Refusal}
 use Rattle.numbers.specs.declared.Refusal.TheVariants.{KeyLength, StoreLength, SheetZero, TextLength, NoSheet, OtherRevision, LastRevision}
 use Rattle.numbers.specs.declared.Refusal.TheVariants.{NoFreeSlot, SheetPresent, SlotUnsound, BufferLength, LengthChanged}
@@ -10,12 +10,14 @@ use Rattle.eme2.specs.Transform.{key_taken}
 use Rattle.records.specs.Record.{text_most, greatest_revision, rev, len, sound}
 use Rattle.slots.specs.Slots.{slots, slot, find_by, bad_size}
 use Rattle.sheets.specs.Text.{text_of}
-use Rattle.plans.specs.declared.Plan.{Plan}
-use Rattle.plans.specs.declared.Plan.TheVariants.{Refuse, At}
+
+-- what a ladder comes to: the slot to work on, or a refusal
+abbrev pub Plan : Type 0
+Plan = Result ℕ Refusal
 
 -- refused if the test holds, and else what follows
 unfoldable pub guard : Bool → Refusal → Plan → Plan
-guard true x p = Refuse x
+guard true x p = Err x
 guard false x p = p
 
 -- ---- the tests
@@ -40,12 +42,12 @@ bad_text t = bad_length (length t)
 unfoldable pub read_at_plan : (o w x : List ℕ) (b k : ℕ) → Plan
 read_at_plan o w x b k =
     guard (not (sound x)) SlotUnsound
-    (guard (ltb b (len x)) BufferLength (guard (not (eqb (length (text_of o w x)) (len x))) LengthChanged (At k)))
+    (guard (ltb b (len x)) BufferLength (guard (not (eqb (length (text_of o w x)) (len x))) LengthChanged (Ok k)))
 
 -- revise 12, 8, 9: the operator saw revision v
 unfoldable pub revise_at_plan : (x : List ℕ) (v k : ℕ) → Plan
 revise_at_plan x v k =
-    guard (not (sound x)) SlotUnsound (guard (not (eqb v (rev x))) OtherRevision (guard (eqb (rev x) greatest_revision) LastRevision (At k)))
+    guard (not (sound x)) SlotUnsound (guard (not (eqb v (rev x))) OtherRevision (guard (eqb (rev x) greatest_revision) LastRevision (Ok k)))
 
 -- ---- what follows 1 and 4: c places, the record r k at place k
 
@@ -62,7 +64,7 @@ module _ (c : ℕ) (r : ℕ → List ℕ) where
   unfoldable pub add_from : (n l : ℕ) → Plan
   add_from n l =
       guard (eqb n 0) SheetZero
-      (guard (bad_length l) TextLength (guard (not (absent n)) SheetPresent (guard (absent 0) NoFreeSlot (At (find_by c r 0)))))
+      (guard (bad_length l) TextLength (guard (not (absent n)) SheetPresent (guard (absent 0) NoFreeSlot (Ok (find_by c r 0)))))
 
   -- revise 5, 6, 7, 12, 8, 9: of sheet n with a text of l bytes
   unfoldable pub revise_from : (n v l : ℕ) → Plan
@@ -72,7 +74,7 @@ module _ (c : ℕ) (r : ℕ → List ℕ) where
 
   -- remove 5, 7
   unfoldable pub remove_from : (n : ℕ) → Plan
-  remove_from n = guard (eqb n 0) SheetZero (guard (absent n) NoSheet (At (find_by c r n)))
+  remove_from n = guard (eqb n 0) SheetZero (guard (absent n) NoSheet (Ok (find_by c r n)))
 
 -- ---- the whole ladders, of a store s
 
@@ -98,4 +100,4 @@ remove_plan s n = guard (bad_size s) StoreLength (remove_from (slots s) (slot s)
 
 -- step 1, 4: at the slot of the job's place k
 abbrev pub step_plan : (o w s : List ℕ) (k : ℕ) → Plan
-step_plan o w s k = opened o w s (At k)
+step_plan o w s k = opened o w s (Ok k)

@@ -3,22 +3,19 @@ ghost use Rattle.std.specs.Prelude.{◌≡◌};
 ghost use Rattle.plans.specs.Plans.{bad_keys, bad_length};
 
 use records::TEXT_MOST;
+use sheets::Keys;
 
-pub fn bad_keys(old: &[u8], new: &[u8]) -> bool
-    ensures { result ≡ bad_keys old.now new.now }
+#[tactic(auto, unfolding(crate::specs::Plans::bad_keys))]
+pub fn bad_keys(keys: Keys) -> bool
+    ensures { result ≡ bad_keys keys.entry.old.now keys.entry.new.now }
 {
-    if !eme2::key_taken(old) {
-        return true;
-    }
-    !eme2::key_taken(new)
+    !eme2::key_taken(keys.old) || !eme2::key_taken(keys.new)
 }
 
 // Of a text of l bytes.
+#[tactic(auto, unfolding(crate::specs::Plans::bad_length))]
 pub fn bad_length(l: usize) -> bool
     ensures { result ≡ bad_length l }
 {
-    if l < 16 {
-        return true;
-    }
-    l > TEXT_MOST
+    l < 16 || l > TEXT_MOST
 }

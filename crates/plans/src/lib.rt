@@ -8,15 +8,9 @@
 mod faults;
 // A ladder for each call.
 mod ladders;
+// The rungs that several ladders share.
+mod rungs;
 
 pub use ladders::{
     add_plan, read_at_plan, read_plan, remove_plan, revise_at_plan, revise_plan, step_plan,
 };
-use numbers::Refusal;
-
-// What a ladder comes to: a refusal, or the slot to work on.
-#[derive(Clone, Copy)]
-pub enum Plan {
-    Refuse(Refusal),
-    At(usize),
-}

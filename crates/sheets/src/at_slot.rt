@@ -4,6 +4,7 @@ ghost use Rattle.records.specs.Record.{text_most, num, rev, len};
 ghost use Rattle.slots.specs.Slots.{slots, slot, put};
 ghost use Rattle.sheets.specs.Text.{text_of, sheet};
 
+use super::Keys;
 use super::text::{put_sheet, take_text};
 use records::{RECORD_SIZE, TEXT_MOST};
 use slots::record_at;
@@ -19,29 +20,18 @@ pub fn put_sheet_at(s: &mut [u8], k: usize, w: &[u8], n: u32, v: u32, text: &[u8
 }
 
 // The sheet of slot k under the new key: its number, its revision and its text, with the new lead.
-pub fn rekey_at(s: &mut [u8], k: usize, o: &[u8], w: &[u8])
+pub fn rekey_at(s: &mut [u8], k: usize, keys: Keys)
     requires { (k < slots s.old) × (len (slot s.old k) ≤ text_most) }
     ensures { s.new
         ≡ put s.old k
-        (sheet w.now (num (slot s.old k)) (rev (slot s.old k))
-        (text_of o.now w.now (slot s.old k))) }
-{
-    let mut room = [0u8; TEXT_MOST];
-    rekey_in(s, k, o, w, &mut room);
-}
-
-// The same with room for the text lent.
-fn rekey_in(s: &mut [u8], k: usize, o: &[u8], w: &[u8], room: &mut [u8])
-    requires { (k < slots s.old) × (len (slot s.old k) ≤ text_most) × (length room.old ≡ text_most) }
-    ensures { s.new
-        ≡ put s.old k
-        (sheet w.now (num (slot s.old k)) (rev (slot s.old k))
-        (text_of o.now w.now (slot s.old k))) }
+        (sheet keys.entry.new.now (num (slot s.old k)) (rev (slot s.old k))
+        (text_of keys.entry.old.now keys.entry.new.now (slot s.old k))) }
 {
     let r = record_at(s, k);
     let n = records::number(r);
     let v = records::revision(r);
     let l = records::text_length(r);
-    take_text(r, o, w, room);
-    put_sheet_at(s, k, w, n, v, &room[0..l]);
+    let mut room = [0u8; TEXT_MOST];
+    take_text(r, keys, &mut room);
+    put_sheet_at(s, k, keys.new, n, v, &room[0..l]);
 }

@@ -10,3 +10,10 @@ mod text;
 
 pub use at_slot::{put_sheet_at, rekey_at};
 pub use text::take_text;
+
+// The two keys of a call: a sheet is read under the one that its mark names, and written under the new one.
+#[derive(Clone, Copy)]
+pub struct Keys<'a> {
+    pub old: &'a [u8],
+    pub new: &'a [u8],
+}

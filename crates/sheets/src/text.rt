@@ -4,7 +4,9 @@ ghost use Rattle.eme2.specs.Transform.{afterwards};
 ghost use Rattle.records.specs.Record.{record_size, text_most, len};
 ghost use Rattle.sheets.specs.Text.{text_of, sheet};
 
-use records::{mark, text_length, write};
+use super::Keys;
+use records::marks::Mark;
+use records::{RECORD_SIZE, mark, text_length, write};
 
 // The record r becomes sheet n at revision v with the text, under the new key w with the new lead.
 pub fn put_sheet(r: &mut [u8], w: &[u8], n: u32, v: u32, text: &[u8])
@@ -12,7 +14,7 @@ pub fn put_sheet(r: &mut [u8], w: &[u8], n: u32, v: u32, text: &[u8])
     ensures { r.new ≡ sheet w.now n v text.now }
 {
     let l = text.len();
-    write(r, n, v, 2, text);
+    write(r, n, v, u8::from(Mark::New), text);
     seal(r, w, l);
 }
 
@@ -29,22 +31,22 @@ fn seal(r: &mut [u8], w: &[u8], l: usize)
 }
 
 // The text of the record r in clear at the front of `out`; the rest of `out` is kept.
-pub fn take_text(r: &[u8], o: &[u8], w: &[u8], out: &mut [u8])
-    requires { (length r.now ≡ record_size) × (16 + len r.now ≤ record_size) × (len r.now ≤ length out.old) }
+pub fn take_text(r: &[u8; RECORD_SIZE], keys: Keys, out: &mut [u8])
+    requires { (16 + len r.now ≤ record_size) × (len r.now ≤ length out.old) }
     ensures { out.new
-        ≡ text_of o.now w.now r.now ++ drop (len r.now) out.old }
+        ≡ text_of keys.entry.old.now keys.entry.new.now r.now ++ drop (len r.now) out.old }
 {
     let l = text_length(r);
     let end = 16 + l;
     block::copy(out, 0, &r[16..end]);
-    let m = mark(r);
     let h = block::load(r, 0);
-    if m == 0 {
+    let m = mark(r);
+    if m == u8::from(Mark::Clear) {
         return;
     }
-    if m == 1 {
-        let _ = eme2::decipher(o, &h, &mut out[0..l]);
+    if m == u8::from(Mark::Old) {
+        let _ = eme2::decipher(keys.old, &h, &mut out[0..l]);
         return;
     }
-    let _ = eme2::decipher(w, &h, &mut out[0..l]);
+    let _ = eme2::decipher(keys.new, &h, &mut out[0..l]);
 }

@@ -2,13 +2,9 @@
 -- Assumes nothing.
 use Rattle.std.specs.Prelude.{◌≡◌, List, ℕ}
 use Rattle.std.proofs.Common.{sym, ◌∙◌}
-use Rattle.store.specs.declared.Text.{Text}
-use Rattle.store.specs.declared.Stored.{Stored}
-use Rattle.store.specs.declared.Removed.{Removed}
-use Rattle.store.specs.declared.Stepped.{Stepped}
-use Rattle.store.specs.Calls.{ReadCalled, AddCalled, ReviseCalled, RemoveCalled, StepCalled}
+use Rattle.store.specs.Calls.{Read, Stored, Removed, Stepped, ReadCalled, AddCalled, ReviseCalled, RemoveCalled, StepCalled}
 
-pub read_determined : (o w s : List ℕ) (n : ℕ) (b : List ℕ) (a a' : Text) (c c' : List ℕ)
+pub read_determined : (o w s : List ℕ) (n : ℕ) (b : List ℕ) (a a' : Read) (c c' : List ℕ)
     → ReadCalled o w s n b a c → ReadCalled o w s n b a' c' → (a ≡ a') × (c ≡ c')
 read_determined o w s n b a a' c c' p q = (p.0 ∙ sym q.0, p.1 ∙ sym q.1)
 

@@ -7,6 +7,7 @@ use Prim.Native.Nat.{ℕ, ◌+◌, ◌≤◌, ◌<◌}
 use native.Mathlib.Omega.{arith}
 use lib.Dec.{eqb}
 use lib.ListN.{length}
+use Rattle.std.specs.Prelude.{Ok, Err}
 use Rattle.block.specs.Bytes.{Bytes}
 use Rattle.block.proofs.RowLaws.{bytes-row}
 use Rattle.numbers.specs.declared.Refusal.{Refusal}
@@ -18,19 +19,15 @@ use Rattle.slots.proofs.FindLaws.{find_lowest, find_is}
 use Rattle.slots.proofs.PutLaws.{slots_put, size_put, slot_put, slot_other, find_put}
 use Rattle.sheets.specs.Text.{sheet}
 use Rattle.sheets.proofs.SheetLaws.{num_sheet, length-sheet}
-use Rattle.plans.specs.declared.Plan.{Plan}
-use Rattle.plans.specs.declared.Plan.TheVariants.{Refuse, At}
-use Rattle.plans.specs.Plans.{bad_text, add_plan, revise_plan}
+use Rattle.plans.specs.Plans.{Plan, bad_text, add_plan, revise_plan}
 use Rattle.plans.proofs.PlanLaws.{add_says, revise_says, add_present, revise_other}
-use Rattle.store.specs.declared.Stored.{Stored}
-use Rattle.store.specs.declared.Stored.TheVariants as stored
-use Rattle.store.specs.Calls.{add_answer, add_store, revise_answer, revise_store}
+use Rattle.store.specs.Calls.{Stored, add_answer, add_store, revise_answer, revise_store}
 use Rattle.store.proofs.RoundTrip.{revision_back, sound_back}
 
 module _ (o w s : List ℕ) (n : ℕ) (t : List ℕ) (k : ℕ) (bw : Bytes w) (bs : Bytes s) (bt : Bytes t) (hn : n < 4294967296) where
   -- a revision accepted and then tried again, with whatever text, finds another revision
-  another_revision : (v : ℕ) (t' : List ℕ) → bad_text t' ≡ false → revise_plan o w s n v t ≡ At k
-      → revise_plan o w (put s k (sheet w n (v + 1) t)) n v t' ≡ Refuse OtherRevision
+  another_revision : (v : ℕ) (t' : List ℕ) → bad_text t' ≡ false → revise_plan o w s n v t ≡ Ok k
+      → revise_plan o w (put s k (sheet w n (v + 1) t)) n v t' ≡ Err OtherRevision
   another_revision v t' b e =
       let a = revise_says o w s n v t k e in
       let h : k < slots s = a.at.within in
@@ -47,7 +44,7 @@ module _ (o w s : List ℕ) (n : ℕ) (t : List ℕ) (k : ℕ) (bw : Bytes w) (b
       (ap (λ (j : ℕ). sound (slot s' j)) g ∙ sk) (λ q. let z : ⊥ = omega arith in z)
 
   -- an add accepted and then tried again, with whatever text, finds the sheet there
-  sheet_there : (t' : List ℕ) → bad_text t' ≡ false → add_plan o w s n t ≡ At k → add_plan o w (put s k (sheet w n 1 t)) n t' ≡ Refuse SheetPresent
+  sheet_there : (t' : List ℕ) → bad_text t' ≡ false → add_plan o w s n t ≡ Ok k → add_plan o w (put s k (sheet w n 1 t)) n t' ≡ Err SheetPresent
   sheet_there t' b e =
       let a = add_says o w s n t k e in
       let h : k < slots s = a.within in
@@ -62,18 +59,11 @@ module _ (o w s : List ℕ) (n : ℕ) (t : List ℕ) (k : ℕ) (bw : Bytes w) (b
 
 -- ---- an answer that is a revision comes of a plan that ends at a slot
 
-abbrev accepts : Stored → ℕ
-accepts (stored.Revision v) = 1
-accepts (stored.Refused x) = 0
-
 -- of any answer that refuses where the plan does
-pub accepted_at : (f : Plan → Stored) → ((x : Refusal) → f (Refuse x) ≡ stored.Refused x) → (p : Plan) (r : ℕ) → f p ≡ stored.Revision r
-    → (k : ℕ) × (p ≡ At k)
-accepted_at f h (Refuse x) r e =
-    let z : ◌≡◌ {A = ℕ} 0 1 = ap accepts (sym (h x) ∙ e) in
-    let y : ⊥ = omega arith in
-    absurd y
-accepted_at f h (At k) r e = (k, refl)
+pub accepted_at : (f : Plan → Stored) → ((x : Refusal) → f (Err x) ≡ Err x) → (p : Plan) (r : ℕ) → f p ≡ Ok r
+    → (k : ℕ) × (p ≡ Ok k)
+accepted_at f h (Err x) r e = cc (h x)
+accepted_at f h (Ok k) r e = (k, refl)
 
 -- ---- a call that was accepted and is made again on the store that it left, with any text of a length that is taken
 
@@ -83,12 +73,12 @@ module _ (o w s : List ℕ) (n : ℕ) (t : List ℕ) (bw : Bytes w) (bs : Bytes 
     abbrev revised : List ℕ
     revised = revise_store w s n t (revise_plan o w s n v t)
 
-    pub revise_again : (r : ℕ) → revise_answer s (revise_plan o w s n v t) ≡ stored.Revision r
-        → revise_answer revised (revise_plan o w revised n v t') ≡ stored.Refused OtherRevision
+    pub revise_again : (r : ℕ) → revise_answer s (revise_plan o w s n v t) ≡ Ok r
+        → revise_answer revised (revise_plan o w revised n v t') ≡ Err OtherRevision
     revise_again r e =
         let a = accepted_at (revise_answer s) (λ x. refl) (revise_plan o w s n v t) r e in
         let k : ℕ = a.0 in
-        let p : revise_plan o w s n v t ≡ At k = a.1 in
+        let p : revise_plan o w s n v t ≡ Ok k = a.1 in
         let q : v ≡ rev (slot s k) = (revise_says o w s n v t k p).seen in
         let left : revised ≡ put s k (sheet w n (v + 1) t) =
         ap (revise_store w s n t) p ∙ ap (λ (x : ℕ). put s k (sheet w n (x + 1) t)) (sym q) in
@@ -98,7 +88,7 @@ module _ (o w s : List ℕ) (n : ℕ) (t : List ℕ) (bw : Bytes w) (bs : Bytes 
   abbrev added : List ℕ
   added = add_store w s n t (add_plan o w s n t)
 
-  pub add_again : (r : ℕ) → add_answer (add_plan o w s n t) ≡ stored.Revision r → add_answer (add_plan o w added n t') ≡ stored.Refused SheetPresent
+  pub add_again : (r : ℕ) → add_answer (add_plan o w s n t) ≡ Ok r → add_answer (add_plan o w added n t') ≡ Err SheetPresent
   add_again r e =
       let a = accepted_at add_answer (λ x. refl) (add_plan o w s n t) r e in
       let left : added ≡ put s a.0 (sheet w n 1 t) = ap (add_store w s n t) a.1 in

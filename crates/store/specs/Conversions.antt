@@ -2,13 +2,11 @@
 -- refusal of its own, or to a text; with a text, the answer and the store are those of add. The bytes that it was read from are kept: no call writes
 -- what is lent to it to read.
 -- Assumes nothing.
-use Rattle.std.specs.Prelude.{◌≡◌, List, ℕ}
+use Rattle.std.specs.Prelude.{◌≡◌, List, ℕ, Err}
 use Rattle.std.proofs.Common.{sym, ◌∙◌}
 use Rattle.numbers.specs.declared.Refusal.{Refusal}
 use Rattle.plans.specs.Plans.{add_plan}
-use Rattle.store.specs.declared.Stored.{Stored}
-use Rattle.store.specs.declared.Stored.TheVariants.{Refused}
-use Rattle.store.specs.Calls.{add_answer, add_store}
+use Rattle.store.specs.Calls.{Stored, add_answer, add_store}
 
 -- what a conversion comes to before add's own tests
 pub data Source : Type 0 where
@@ -17,7 +15,7 @@ pub data Source : Type 0 where
 
 -- sheet n from the source x, with the old key o and the new key w, into the store s
 abbrev pub convert_answer : (o w s : List ℕ) (n : ℕ) → Source → Stored
-convert_answer o w s n (refuses x) = Refused x
+convert_answer o w s n (refuses x) = Err x
 convert_answer o w s n (gives t) = add_answer (add_plan o w s n t)
 
 abbrev pub convert_store : (o w s : List ℕ) (n : ℕ) → Source → List ℕ

@@ -11,33 +11,19 @@ mod stepping;
 // Add, revise and remove.
 mod writing;
 
-use numbers::Refusal;
 pub use reading::{read, read_slot};
 pub use stepping::{step_at, step_slot};
 pub use writing::{add, remove, revise};
 
-// What read answers.
+// What read gives beside the text.
 #[derive(Clone, Copy)]
-pub enum Text {
-    Read { length: u32, revision: u32 },
-    Refused(Refusal),
-}
-
-// What add and revise answer: the revision now stored.
-#[derive(Clone, Copy)]
-pub enum Stored {
-    Revision(u32),
-    Refused(Refusal),
-}
-
-#[derive(Clone, Copy)]
-pub enum Removed {
-    Done,
-    Refused(Refusal),
+pub struct Text {
+    pub length: u32,
+    pub revision: u32,
 }
 
 // The outcomes of a step, in 01's order.
-#[derive(Clone, Copy)]
+#[derive(Clone, Copy, PartialEq, Eq)]
 pub enum Outcome {
     Done,
     Free,
@@ -46,9 +32,9 @@ pub enum Outcome {
     Converted,
 }
 
-// What a step answers: its outcome and the job's place afterwards.
+// What a step comes to: its outcome, and the job's place afterwards.
 #[derive(Clone, Copy)]
-pub enum Stepped {
-    Went { outcome: Outcome, place: usize },
-    Refused(Refusal),
+pub struct Went {
+    pub outcome: Outcome,
+    pub place: usize,
 }

@@ -6,32 +6,30 @@ ghost use Rattle.sheets.specs.Text.{text_of};
 ghost use Rattle.store.specs.Calls.{ReadCalled};
 
 use super::Text;
-use plans::{Plan, read_plan};
+use numbers::Refusal;
+use plans::read_plan;
+use sheets::Keys;
 use slots::record_at;
 
-pub fn read(old: &[u8], new: &[u8], store: &[u8], sheet: u32, text: &mut [u8]) -> Text
-    ensures { ReadCalled old.now new.now store.now sheet text.old result text.new }
+pub fn read(keys: Keys, store: &[u8], sheet: u32, text: &mut [u8]) -> Result<Text, Refusal>
+    ensures { ReadCalled keys.entry.old.now keys.entry.new.now store.now sheet text.old result text.new }
 {
-    match read_plan(old, new, store, sheet, text.len()) {
-        Plan::Refuse(x) => Text::Refused(x),
-        Plan::At(k) => read_slot(old, new, store, k, text),
-    }
+    let k = read_plan(keys, store, sheet, text.len())?;
+    Ok(read_slot(keys, store, k, text))
 }
 
 // The text of slot k, and its length and revision.
-pub fn read_slot(old: &[u8], new: &[u8], store: &[u8], k: usize, text: &mut [u8]) -> Text
+pub fn read_slot(keys: Keys, store: &[u8], k: usize, text: &mut [u8]) -> Text
     requires { (k < slots store.now) × (len (slot store.now k) ≤ text_most) × (len (slot store.now k) ≤ length text.old) }
-    ensures { (result ≡ Text.Read (len (slot store.now k)) (rev (slot store.now k)))
+    ensures { (result ≡ record { length = len (slot store.now k); revision = rev (slot store.now k) })
         × (text.new
-        ≡ text_of old.now new.now (slot store.now k)
+        ≡ text_of keys.entry.old.now keys.entry.new.now (slot store.now k)
         ++ drop (len (slot store.now k)) text.old) }
 {
     let r = record_at(store, k);
-    let l = records::text_length(r);
-    let v = records::revision(r);
-    sheets::take_text(r, old, new, text);
-    Text::Read {
-        length: l as u32,
-        revision: v,
+    sheets::take_text(r, keys, text);
+    Text {
+        length: records::text_length(r) as u32,
+        revision: records::revision(r),
     }
 }

@@ -1,54 +1,58 @@
 // One step of the rekeying job, its place by value.
 ghost use Rattle.std.specs.Prelude.{◌≡◌};
-ghost use Rattle.store.specs.Calls.{outcome_at, moved_from, converted_at, StepCalled};
+ghost use Rattle.store.specs.Calls.{record_outcome, outcome_at, moved_from, converted_at, StepCalled};
 
-use super::{Outcome, Stepped};
-use plans::{Plan, step_plan};
+use super::{Outcome, Went};
+use numbers::Refusal;
+use plans::step_plan;
+use records::RECORD_SIZE;
+use records::marks::Mark;
+use sheets::Keys;
 use slots::{count, record_at};
 
-pub fn step_at(old: &[u8], new: &[u8], store: &mut [u8], place: usize) -> Stepped
-    ensures { StepCalled old.now new.now store.old place result store.new }
+pub fn step_at(keys: Keys, store: &mut [u8], place: usize) -> Result<Went, Refusal>
+    ensures { StepCalled keys.entry.old.now keys.entry.new.now store.old place result store.new }
 {
-    match step_plan(old, new, store, place) {
-        Plan::Refuse(x) => Stepped::Refused(x),
-        Plan::At(k) => step_slot(old, new, store, k),
-    }
+    let k = step_plan(keys, store, place)?;
+    Ok(step_slot(keys, store, k))
 }
 
-// The slot at place k.
-pub fn step_slot(old: &[u8], new: &[u8], store: &mut [u8], k: usize) -> Stepped
-    ensures { (result ≡ Stepped.Went (outcome_at store.old k) (moved_from k (outcome_at store.old k)))
-        × (store.new ≡ converted_at old.now new.now store.old k (outcome_at store.old k)) }
+// The slot at place k. The place is moved on by one, but where no slot is left.
+#[tactic(auto, unfolding(crate::specs::Calls::outcome_at))]
+pub fn step_slot(keys: Keys, store: &mut [u8], k: usize) -> Went
+    ensures { (result ≡ record { outcome = outcome_at store.old k; place = moved_from k (outcome_at store.old k) })
+        × (store.new
+        ≡ converted_at keys.entry.old.now keys.entry.new.now store.old k (outcome_at store.old k)) }
 {
     if k >= count(store) {
-        return Stepped::Went {
+        return Went {
             outcome: Outcome::Done,
             place: k,
         };
     }
-    let next = k + 1;
-    let r = record_at(store, k);
+    let outcome = outcome_of(record_at(store, k));
+    if outcome == Outcome::Converted {
+        sheets::rekey_at(store, k, keys);
+    }
+    Went {
+        outcome,
+        place: k + 1,
+    }
+}
+
+// What a step comes to on a slot with the record r.
+#[tactic(auto, unfolding(crate::specs::Calls::record_outcome))]
+fn outcome_of(r: &[u8; RECORD_SIZE]) -> Outcome
+    ensures { result ≡ record_outcome r.now }
+{
     if records::number(r) == 0 {
-        return Stepped::Went {
-            outcome: Outcome::Free,
-            place: next,
-        };
+        return Outcome::Free;
     }
     if !records::is_sound(r) {
-        return Stepped::Went {
-            outcome: Outcome::Damaged,
-            place: next,
-        };
+        return Outcome::Damaged;
     }
-    if records::mark(r) == 2 {
-        return Stepped::Went {
-            outcome: Outcome::Already,
-            place: next,
-        };
+    if records::mark(r) == u8::from(Mark::New) {
+        return Outcome::Already;
     }
-    sheets::rekey_at(store, k, old, new);
-    Stepped::Went {
-        outcome: Outcome::Converted,
-        place: next,
-    }
+    Outcome::Converted
 }

@@ -22,6 +22,6 @@ returns c =
     let t : List ℕ = a.text.now in
     let r1 : List ℕ = record_of a.n a.v 2 t in
     let e : c.seal.new.r ≡ sealed a.w.now r1 (length t) =
-    c.seal.ensures ∙ ap (λ (r : List ℕ). sealed a.w.now r (length t)) c.write.ensures in
+    c.seal.ensures ∙ ap (λ (r : List ℕ). sealed a.w.now r (length t)) (c.write.ensures ∙ ap (λ (m : ℕ). record_of a.n a.v m t) c.from.ensures) in
     let l : length (sealed a.w.now r1 (length t)) ≡ record_size = sym (ap length e) ∙ c.seal.auto.r ∙ c.write.auto.r ∙ c.requires.0 in
     e ∙ sheet_sealed a.w.now a.n a.v t c.requires.1 l
