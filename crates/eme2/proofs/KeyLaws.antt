@@ -1,6 +1,6 @@
 -- The key's fields as the code takes them, and the transform from what its calls ensure.
 -- Assumes nothing.
-use mathlib.Core.Path.{◌≡◌, sym, ap, ap₂, ◌∙◌}
+use mathlib.Core.Path.{◌≡◌, ap, ap₂, ◌∙◌}
 use mathlib.Core.Bool.{Bool, true, false}
 use mathlib.Core.List.{List}
 use Prim.Native.Nat.{ℕ, ◌+◌, ◌-◌, ◌/◌, ◌≤◌}
@@ -18,12 +18,6 @@ module _ (k : List ℕ) (h : 32 ≤ length k) where
   pub length-Key1 : length (Key1 k) ≡ length k - 32
   length-Key1 = length-take-le (length k - 32) k (omega arith)
 
-  -- the part of the key from 0 on
-  pub key1_part : take (length k - 32 - 0) k ≡ Key1 k
-  key1_part =
-      let n : length k - 32 - 0 ≡ length k - 32 = omega arith in
-      ap (λ (j : ℕ). take j k) n
-
   -- the last 16 bytes, loaded as a block
   pub key3_loaded : block_at k (length k - 32 + 16) ≡ Key3 k
   key3_loaded =
@@ -32,8 +26,8 @@ module _ (k : List ℕ) (h : 32 ≤ length k) where
 
   -- each hypothesis is what one call of the code ensures
   pub transformed : (back : Bool) (ad m : List ℕ) (keys : List (List ℕ)) (nr : ℕ) (k3 t l m' : List ℕ)
-      → keys ≡ round_keys (take (length k - 32 - 0) k)
-      → nr ≡ (length k - 32) / 4 + 6
+      → keys ≡ round_keys (Key1 k)
+      → nr ≡ length (Key1 k) / 4 + 6
       → k3 ≡ block_at k (length k - 32 + 16)
       → t ≡ eme2_t_star (crypted false keys nr) k3 ad
       → l ≡ block_at k (length k - 32)
@@ -42,7 +36,7 @@ module _ (k : List ℕ) (h : 32 ≤ length k) where
   unfolding eme2
   transformed back ad m keys nr k3 t l m' e_keys e_n e_3 e_t e_l e_m =
       let same : (b : Bool) → crypted b keys nr ≡ aes b (Key1 k) =
-      λ b. ap₂ (crypted b) (e_keys ∙ ap round_keys key1_part) (e_n ∙ ap (λ (n : ℕ). n / 4 + 6) (sym length-Key1)) ∙ (λ i x. crypted_aes b (Key1 k) x i) in
+      λ b. ap₂ (crypted b) e_keys e_n ∙ (λ i x. crypted_aes b (Key1 k) x i) in
       e_m
       ∙ ap₂ (λ (f : List ℕ → List ℕ) (x : List ℕ). wide f x t m) (same back) e_l
       ∙ ap (λ (x : List ℕ). wide (aes back (Key1 k)) (Key2 k) x m)

@@ -62,8 +62,7 @@ fn transform(back: bool, key: &[u8], ad: &[u8], message: &mut [u8])
     ensures { message.new ≡ eme2 back key.now ad.now message.old }
 {
     let end = key.len() - 32;
-    let keys = aes::key_setup(&key[0..end]);
-    let nr = aes::rounds_of(end);
-    let t = wide::t_star(keys, nr, block::load(key, end + 16), ad);
-    wide::wide(back, keys, nr, block::load(key, end), t, message);
+    let keys = aes::key_setup(&key[..end]);
+    let t = wide::t_star(keys, block::load(key, end + 16), ad);
+    wide::wide(back, keys, block::load(key, end), t, message);
 }

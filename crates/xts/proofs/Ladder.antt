@@ -1,6 +1,6 @@
 -- Each way out of the calls, from the answer of the tests that leads there.
 -- Assumes nothing.
-use Rattle.std.specs.Prelude.{Err, Ok, Result, ⊤}
+use Rattle.std.specs.Prelude.{Err, Ok}
 use mathlib.Core.Path.{◌≡◌, refl, sym, ap, ◌∙◌}
 use mathlib.Core.Bool.{Bool, true, false, cond}
 use mathlib.Core.List.{List}
@@ -12,10 +12,10 @@ use lib.ListN.{length, replicate}
 use Rattle.block.specs.Blocks.{block_at}
 use Rattle.numbers.specs.declared.Refusal.{Refusal}
 use Rattle.numbers.specs.declared.Refusal.TheVariants.{BlockNotAlone}
-use Rattle.numbers.specs.Numbers.{paper, answer_paper, some_number}
+use Rattle.numbers.specs.Numbers.{paper, some_number}
 use Rattle.unit.specs.Unit.{alone}
 use Rattle.xts.specs.Xts.{number, xts, afterwards, block_number, block_under, block_answered}
-use Rattle.xts.specs.Calls.{Called}
+use Rattle.xts.specs.Calls.{Called, BlockCalled}
 use Rattle.xts.proofs.Bounds.{block_by}
 
 -- no refusal has the number 0
@@ -36,36 +36,24 @@ module _ (back : Bool) (k : List ℕ) (i : ℕ) (u : List ℕ) where
   pub done : 0 ≡ number (length k) (length u) → (u' : List ℕ) → u' ≡ xts back k i u → Called back k i u (Ok tt) u'
   done e u' p = (e, p ∙ sym (with_number 0 (sym e)))
 
--- ---- a single block: what is promised of answer and block
+-- ---- a single block
 
-module _ (k : List ℕ) (i : ℕ) (u : List ℕ) (j : ℕ) (a : Result ⊤ Refusal) (b : List ℕ) where
-  abbrev pub Kept : Type 0
-  Kept = (answer_paper a ≡ block_number (length k) (length u) j) × (b ≡ block_answered k i u j)
-
-  -- the block that goes with a number
-  block_with : (n : ℕ) → block_number (length k) (length u) j ≡ n
-      → block_answered k i u j ≡ cond (eqb n 0) (block_under k i j (block_at u (16 * j))) (replicate 16 0)
-  unfolding block_answered
-  block_with n e = ap (λ (m : ℕ). cond (eqb m 0) (block_under k i j (block_at u (16 * j))) (replicate 16 0)) e
-
-  no_block : (x : Refusal) → a ≡ Err x → b ≡ replicate 16 0 → block_number (length k) (length u) j ≡ paper x → Kept
-  no_block x p q e = (
-    ap answer_paper p ∙ sym e,
-    q ∙ sym (block_with (paper x) e ∙ ap (λ (t : Bool). cond t (block_under k i j (block_at u (16 * j))) (replicate 16 0)) (not_0 x)),
-  )
-
+module _ (k : List ℕ) (i : ℕ) (u : List ℕ) (j : ℕ) where
   -- refused as the unit is
-  pub unit_refused : (x : Refusal) → a ≡ Err x → b ≡ replicate 16 0 → paper x ≡ number (length k) (length u) → Kept
-  unit_refused x p q e =
+  pub unit_refused : (x : Refusal) → paper x ≡ number (length k) (length u) → BlockCalled k i u j (Err x)
+  unit_refused x e =
       let t : Bool = ltb j (alone (length u)) in
-      no_block x p q
-      (block_by (length k) (length u) j (paper x) t (sym e) refl ∙ ap (λ (z : Bool). cond z (cond t 0 17) (paper x)) (not_0 x))
+      let n : block_number (length k) (length u) j ≡ paper x =
+      block_by (length k) (length u) j (paper x) t (sym e) refl ∙ ap (λ (z : Bool). cond z (cond t 0 17) (paper x)) (not_0 x) in
+      (sym n, tt)
 
   -- the unit is taken, and the block can't be read alone
-  pub not_alone : a ≡ Err BlockNotAlone → b ≡ replicate 16 0 → 0 ≡ number (length k) (length u) → alone (length u) ≤ j → Kept
-  not_alone p q e h = no_block BlockNotAlone p q (block_by (length k) (length u) j 0 false (sym e) (le-ltb j (alone (length u)) h))
+  pub not_alone : 0 ≡ number (length k) (length u) → alone (length u) ≤ j → BlockCalled k i u j (Err BlockNotAlone)
+  not_alone e h = (sym (block_by (length k) (length u) j 0 false (sym e) (le-ltb j (alone (length u)) h)), tt)
 
-  pub block_done : a ≡ (Ok tt) → b ≡ block_under k i j (block_at u (16 * j)) → 0 ≡ number (length k) (length u) → j < alone (length u) → Kept
-  block_done p q e h =
+  pub block_done : (b : List ℕ) → b ≡ block_under k i j (block_at u (16 * j)) → 0 ≡ number (length k) (length u) → j < alone (length u)
+      → BlockCalled k i u j (Ok b)
+  unfolding block_answered
+  block_done b q e h =
       let n : block_number (length k) (length u) j ≡ 0 = block_by (length k) (length u) j 0 true (sym e) (lt-ltb j (alone (length u)) h) in
-      (ap answer_paper p ∙ sym n, q ∙ sym (block_with 0 n))
+      (sym n, q ∙ sym (ap (λ (m : ℕ). cond (eqb m 0) (block_under k i j (block_at u (16 * j))) (replicate 16 0)) n))

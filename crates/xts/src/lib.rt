@@ -6,19 +6,14 @@
 // that is read alone is that block of the deciphered unit.
 #![tactic(auto)]
 
-ghost use Rattle.std.specs.Prelude.{true, false, ◌≡◌, ◌≤◌, length, replicate, Err};
+ghost use Rattle.std.specs.Prelude.{true, false, ◌≡◌, ◌+◌, ◌/◌, ◌≤◌, length};
 ghost use Rattle.numbers.specs.Numbers.{answer_paper};
-ghost use Rattle.xts.specs.Xts.{key_taken, number, number_block, tweak, xts, block_under};
+ghost use Rattle.aes.specs.Aes.{round_keys};
+ghost use Rattle.xts.specs.Xts.{Key1, key_taken, number, number_block, tweak, xts, block_under};
 ghost use Rattle.xts.specs.Calls.{Called, BlockCalled};
 
+use aes::RoundKeys;
 use numbers::Refusal;
-
-// What the call for a single block answers, and the block: zeros where it is refused.
-#[derive(Clone, Copy)]
-pub struct Single {
-    pub answer: Result<(), Refusal>,
-    pub block: [u8; 16],
-}
 
 // Overwrites the unit with its encipherment under the key and the unit's number.
 pub fn encipher(key: &[u8], number: u64, unit: &mut [u8]) -> Result<(), Refusal>
@@ -35,25 +30,16 @@ pub fn decipher(key: &[u8], number: u64, unit: &mut [u8]) -> Result<(), Refusal>
 }
 
 // Block k of the unit deciphered, without the ones before it: of the unit its 16 bytes are loaded, and nothing else.
-pub fn block_alone(key: &[u8], number: u64, unit: &[u8], k: u64) -> Single
+pub fn block_alone(key: &[u8], number: u64, unit: &[u8], k: u64) -> Result<[u8; 16], Refusal>
     ensures { BlockCalled key.now number unit.now k result }
 {
     let n = unit.len();
-    let a = tested(key.len(), n);
-    match a {
-        Err(x) => no_block(x),
-        Ok(()) => {
-            if k >= (unit::alone(n) as u64) {
-                return no_block(Refusal::BlockNotAlone);
-            }
-            let at = 16 * (k as usize);
-            let b = block_under(key, number, k, block::load(unit, at));
-            Single {
-                answer: Ok(()),
-                block: b,
-            }
-        }
+    tested(key.len(), n)?;
+    if k >= (unit::alone(n) as u64) {
+        return Err(Refusal::BlockNotAlone);
     }
+    let at = 16 * (k as usize);
+    Ok(block_under(key, number, k, block::load(unit, at)))
 }
 
 // 02, order 3: the key's length is tested first, then the unit's.
@@ -76,14 +62,9 @@ pub fn tested(key: usize, unit: usize) -> Result<(), Refusal>
 fn call(back: bool, key: &[u8], number: u64, unit: &mut [u8]) -> Result<(), Refusal>
     ensures { Called back key.now number unit.old result unit.new }
 {
-    let a = tested(key.len(), unit.len());
-    match a {
-        Err(x) => Err(x),
-        Ok(()) => {
-            transform(back, key, number, unit);
-            Ok(())
-        }
-    }
+    tested(key.len(), unit.len())?;
+    transform(back, key, number, unit);
+    Ok(())
 }
 
 // Whether a key of n bytes is taken: 32 or 64, by name.
@@ -99,9 +80,16 @@ fn transform(back: bool, key: &[u8], number: u64, unit: &mut [u8])
     ensures { unit.new ≡ xts back key.now number unit.old }
 {
     let t = tweak(key, number);
-    let half = key.len() / 2;
-    let keys = aes::key_setup(&key[0..half]);
-    unit::unit(back, keys, aes::rounds_of(half), t, unit);
+    unit::unit(back, key1(key), t, unit);
+}
+
+// The round keys of the first half of the key.
+fn key1(key: &[u8]) -> RoundKeys
+    requires { key_taken (length key.now) ≡ true }
+    ensures keys { result.keys ≡ round_keys (Key1 key.now) }
+    ensures rounds { result.rounds ≡ length (Key1 key.now) / 4 + 6 }
+{
+    aes::key_setup(&key[..key.len() / 2])
 }
 
 // The tweak of block 0 of the unit with this number, made with Enc in both directions.
@@ -109,10 +97,8 @@ fn tweak(key: &[u8], number: u64) -> [u8; 16]
     requires { key_taken (length key.now) ≡ true }
     ensures { result ≡ tweak key.now number }
 {
-    let n = key.len();
-    let half = n / 2;
-    let keys = aes::key_setup(&key[half..n]);
-    aes::crypt(false, keys, aes::rounds_of(half), number_block(number))
+    let keys = aes::key_setup(&key[key.len() / 2..]);
+    aes::crypt(false, keys, number_block(number))
 }
 
 // The number's block, its low byte first.
@@ -120,24 +106,8 @@ fn number_block(number: u64) -> [u8; 16]
     ensures { result ≡ number_block number }
 {
     let mut b = [0u8; 16];
-    let mut left = number;
-    let mut i = 0;
-    while i < 8 {
-        b[i] = (left % 256) as u8;
-        left = left / 256;
-        i += 1;
-    }
+    b[..8].copy_from_slice(&number.to_le_bytes());
     b
-}
-
-// A refused call for a block.
-fn no_block(x: Refusal) -> Single
-    ensures { (result.answer ≡ Err x) × (result.block ≡ replicate 16 0) }
-{
-    Single {
-        answer: Err(x),
-        block: [0u8; 16],
-    }
 }
 
 // The block c, as block k of the unit with this number, deciphered: its tweak is alpha^k, found by halving k, times that of block 0.
@@ -146,7 +116,5 @@ fn block_under(key: &[u8], number: u64, k: u64, c: [u8; 16]) -> [u8; 16]
     ensures { result ≡ block_under key.now number k c }
 {
     let t = field::product(field::power(k), tweak(key, number));
-    let half = key.len() / 2;
-    let keys = aes::key_setup(&key[0..half]);
-    unit::under(true, keys, aes::rounds_of(half), t, c)
+    unit::under(true, key1(key), t, c)
 }
