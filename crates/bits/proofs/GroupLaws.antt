@@ -11,7 +11,7 @@ use lib.Seq.{get_or-set_same, get_or-set_other}
 use borrow.Author.Tests.{ltb-true, ltb-false}
 use lib.Dec.{ltb}
 use Rattle.bits.specs.declared.BitPlanes.{BitPlanes}
-use Rattle.bits.specs.Planes.{words, planes_of, puts, with_planes}
+use Rattle.bits.specs.Planes.{words, planes, planes_of, puts, with_planes}
 
 -- word j of the planes at t
 pub planes_at : (g : List ℕ) (t j : ℕ) → j < 8 → get_or (planes_of g t) j 0 ≡ get_or g (t + 4 * j) 0
@@ -25,9 +25,18 @@ planes_at g t (suc (suc (suc (suc (suc (suc zero)))))) h = refl
 planes_at g t (suc (suc (suc (suc (suc (suc (suc zero))))))) h = refl
 planes_at g t (suc (suc (suc (suc (suc (suc (suc (suc j)))))))) h = omega arith
 
-length-puts : (g : List ℕ) (t k : ℕ) (xs : List ℕ) → length (puts g t k xs) ≡ length g
-length-puts g t k [] = refl
-length-puts g t k (x ∷ xs) = length-puts (set g (t + k) x) t (k + 4) xs ∙ length-set g (t + k) x
+-- the planes that have these words
+abbrev of_words : List ℕ → BitPlanes
+of_words ws = record {
+  p0 = get_or ws 0 0;
+  p1 = get_or ws 1 0;
+  p2 = get_or ws 2 0;
+  p3 = get_or ws 3 0;
+  p4 = get_or ws 4 0;
+  p5 = get_or ws 5 0;
+  p6 = get_or ws 6 0;
+  p7 = get_or ws 7 0;
+}
 
 -- a place that none of them is at is kept
 puts_kept : (g : List ℕ) (t k : ℕ) (xs : List ℕ) (i : ℕ) → ((m : ℕ) → m < length xs → i ≡ t + (k + 4 * m) → ⊥)
@@ -57,12 +66,8 @@ module _ (g : List ℕ) (t : ℕ) (q : BitPlanes) (h : t < 4) (l : length g ≡ 
   abbrev first : List ℕ
   first = set g t q.p0
 
-  pub size_put : length (with_planes g t (words q)) ≡ 32
-  size_put = length-puts first t 4 rest ∙ length-set g t q.p0 ∙ l
-
-  -- the planes that are put
-  pub planes_put : planes_of (with_planes g t (words q)) t ≡ words q
-  planes_put =
+  words_put : planes_of (with_planes g t (words q)) t ≡ words q
+  words_put =
       λ i.
       (puts_kept first t 4 rest t (λ m k e. omega arith) ∙ get_or-set_same g t q.p0 0 (omega arith)) i
       ∷ puts_found first t 4 rest 0 (omega arith) (omega (arith, length-set g t q.p0)) i
@@ -74,9 +79,8 @@ module _ (g : List ℕ) (t : ℕ) (q : BitPlanes) (h : t < 4) (l : length g ≡ 
       ∷ puts_found first t 4 rest 6 (omega arith) (omega (arith, length-set g t q.p0)) i
       ∷ []
 
-  -- and the others
-  pub planes_kept : (u : ℕ) → u < 4 → (u ≡ t → ⊥) → planes_of (with_planes g t (words q)) u ≡ planes_of g u
-  planes_kept u k n =
+  words_kept : (u : ℕ) → u < 4 → (u ≡ t → ⊥) → planes_of (with_planes g t (words q)) u ≡ planes_of g u
+  words_kept u k n =
       λ i.
       (puts_kept first t 4 rest u (λ m o e. omega arith) ∙ get_or-set_other g t u q.p0 0 (λ e. omega arith)) i
       ∷ (puts_kept first t 4 rest (u + 4) (λ m o e. omega arith) ∙ get_or-set_other g t (u + 4) q.p0 0 (λ e. omega arith)) i
@@ -88,6 +92,14 @@ module _ (g : List ℕ) (t : ℕ) (q : BitPlanes) (h : t < 4) (l : length g ≡ 
       ∷ (puts_kept first t 4 rest (u + 28) (λ m o e. omega arith) ∙ get_or-set_other g t (u + 28) q.p0 0 (λ e. omega arith)) i
       ∷ []
 
+  -- the planes that are put
+  pub planes_put : planes (with_planes g t (words q)) t ≡ q
+  planes_put = ap of_words words_put
+
+  -- and the others
+  pub planes_kept : (u : ℕ) → u < 4 → (u ≡ t → ⊥) → planes (with_planes g t (words q)) u ≡ planes g u
+  planes_kept u k n = ap of_words (words_kept u k n)
+
 -- a number below t + 1 is below t, or t
 pub below_next : (P : Type 0) (u t : ℕ) → u < t + 1 → (u < t → P) → (u ≡ t → P) → P
 below_next P u t h f g = by (ltb u t) refl
@@ -98,20 +110,17 @@ below_next P u t h f g = by (ltb u t) refl
 
 -- one more turn of a loop that puts planes
 module _ (g g' : List ℕ) (t : ℕ) (q : BitPlanes) (h : t < 4) (l : length g ≡ 32) (e : g' ≡ with_planes g t (words q)) where
-  pub size_more : length g' ≡ 32
-  size_more = ap length e ∙ size_put g t q h l
-
   -- what holds of those that are done
-  pub done_more : (P : ℕ → List ℕ → Type 0) → ((u : ℕ) → u < t → P u (planes_of g u)) → P t (words q) → (u : ℕ) → u < t + 1 → P u (planes_of g' u)
+  pub done_more : (P : ℕ → BitPlanes → Type 0) → ((u : ℕ) → u < t → P u (planes g u)) → P t q → (u : ℕ) → u < t + 1 → P u (planes g' u)
   done_more P d p u k =
-      subst (λ (z : List ℕ). P u (planes_of z u)) (sym e)
-      (below_next (P u (planes_of (with_planes g t (words q)) u)) u t k
-      (λ m. subst (λ (z : List ℕ). P u z) (sym (planes_kept g t q h l u (omega arith) (λ n. omega arith))) (d u m))
+      subst (λ (z : List ℕ). P u (planes z u)) (sym e)
+      (below_next (P u (planes (with_planes g t (words q)) u)) u t k
+      (λ m. subst (λ (z : BitPlanes). P u z) (sym (planes_kept g t q h l u (omega arith) (λ n. omega arith))) (d u m))
       (λ n.
-      subst (λ (v : ℕ). P v (planes_of (with_planes g t (words q)) v)) (sym n) (subst (λ (z : List ℕ). P t z) (sym (planes_put g t q h l)) p)))
+      subst (λ (v : ℕ). P v (planes (with_planes g t (words q)) v)) (sym n) (subst (λ (z : BitPlanes). P t z) (sym (planes_put g t q h l)) p)))
 
   -- and those that are left
-  pub left_more : (g₀ : List ℕ) → ((u : ℕ) → t ≤ u → u < 4 → planes_of g u ≡ planes_of g₀ u)
-      → (u : ℕ) → t + 1 ≤ u → u < 4 → planes_of g' u ≡ planes_of g₀ u
+  pub left_more : (g₀ : List ℕ) → ((u : ℕ) → t ≤ u → u < 4 → planes g u ≡ planes g₀ u)
+      → (u : ℕ) → t + 1 ≤ u → u < 4 → planes g' u ≡ planes g₀ u
   left_more g₀ d u k m =
-      ap (λ (z : List ℕ). planes_of z u) e ∙ planes_kept g t q h l u m (λ n. omega arith) ∙ d u (omega arith) m
+      ap (λ (z : List ℕ). planes z u) e ∙ planes_kept g t q h l u m (λ n. omega arith) ∙ d u (omega arith) m

@@ -2,13 +2,13 @@
 -- Assumes nothing.
 use mathlib.Core.Path.{◌≡◌, refl, sym, ap, ◌∙◌}
 use mathlib.Core.List.{List, [], ◌∷◌}
-use Prim.Native.Nat.{ℕ, zero, suc, ◌+◌, ◌*◌, ◌/◌, ◌%◌, ◌^◌, ◌<◌}
-use native.Mathlib.Nat.{add-zero, add_comm}
+use Prim.Native.Nat.{ℕ, suc, ◌+◌, ◌*◌, ◌/◌, ◌^◌, ◌<◌}
+use native.Mathlib.Nat.{add_comm}
 use native.Mathlib.Omega.{arith}
 use lib.ListN.{get_or}
-use Rattle.block.specs.Tab.{tab, byte}
+use Rattle.block.specs.Tab.{tab}
 use Rattle.block.proofs.TabLaws.{tab_ext}
-use Rattle.bits.specs.Planes.{bit, of_bits, byte_at, byte_of, Flipped, Placed, Word}
+use Rattle.bits.specs.Planes.{bit, of_bits, byte_at, byte_of, Flipped, Placed}
 use Rattle.bits.specs.Wires.{value, merge}
 use Rattle.bits.proofs.BitLaws.{bit_right, of_bits_lem}
 use Rattle.bits.proofs.WireLaws.{merged_bit}
@@ -67,15 +67,3 @@ placed_shift w = record {
   where
     one : (w : ℕ) → w / 1 ≡ w
     one w = omega arith
-
--- the word of four bytes
-pub word_of : (s : List ℕ) (at : ℕ) → byte s at < 256 → byte s (at + 1) < 256 → byte s (at + 2) < 256 → byte s (at + 3) < 256
-    → (w : ℕ) → w ≡ byte s at + 256 * (byte s (at + 1) + 256 * (byte s (at + 2) + 256 * byte s (at + 3))) → Word w s at
-word_of s at h0 h1 h2 h3 w e = record { has = go }
-  where
-    go : (c : ℕ) → c < 4 → byte_of w c ≡ byte s (at + c)
-    go zero k = let d : w / 1 % 256 ≡ byte s at = omega arith in d ∙ ap (λ (n : ℕ). byte s n) (sym (add-zero at))
-    go (suc zero) k = let d : w / 256 % 256 ≡ byte s (at + 1) = omega arith in d
-    go (suc (suc zero)) k = let d : w / 65536 % 256 ≡ byte s (at + 2) = omega arith in d
-    go (suc (suc (suc zero))) k = let d : w / 16777216 % 256 ≡ byte s (at + 3) = omega arith in d
-    go (suc (suc (suc (suc c)))) k = omega arith

@@ -30,17 +30,20 @@ pub record Each (f : ℕ → ℕ) (q r : List ℕ) : Type 0 where
   pub at : (k : ℕ) → k < 32 → byte_at r k ≡ f (byte_at q k)
 
 -- a group is 32 words: planes t, t + 4, .. t + 28 for each t below 4
+abbrev pub planes : List ℕ → ℕ → BitPlanes
+planes g t = record {
+  p0 = get_or g t 0;
+  p1 = get_or g (t + 4) 0;
+  p2 = get_or g (t + 8) 0;
+  p3 = get_or g (t + 12) 0;
+  p4 = get_or g (t + 16) 0;
+  p5 = get_or g (t + 20) 0;
+  p6 = get_or g (t + 24) 0;
+  p7 = get_or g (t + 28) 0;
+}
+
 abbrev pub planes_of : List ℕ → ℕ → List ℕ
-planes_of g t =
-    get_or g t 0
-    ∷ get_or g (t + 4) 0
-    ∷ get_or g (t + 8) 0
-    ∷ get_or g (t + 12) 0
-    ∷ get_or g (t + 16) 0
-    ∷ get_or g (t + 20) 0
-    ∷ get_or g (t + 24) 0
-    ∷ get_or g (t + 28) 0
-    ∷ []
+planes_of g t = words (planes g t)
 
 -- the group with the words of q in the place of those at t: the first at t, the others from t + k on, each four places further
 abbrev pub puts : List ℕ → ℕ → ℕ → List ℕ → List ℕ
@@ -51,10 +54,13 @@ abbrev pub with_planes : List ℕ → ℕ → List ℕ → List ℕ
 with_planes g t [] = g
 with_planes g t (x ∷ xs) = puts (set g t x) t 4 xs
 
+-- of every planes of g and those in their place in h, P holds
+pub record OverPlanes (P : BitPlanes → BitPlanes → Type 0) (g h : List ℕ) : Type 0 where
+  pub at : (t : ℕ) → t < 4 → P (planes g t) (planes h t)
+
 -- every byte of every planes of h is f of the byte of g
-pub record EachOf (f : ℕ → ℕ) (g h : List ℕ) : Type 0 where
-  pub size : length h ≡ 32
-  pub at : (t : ℕ) → t < 4 → Each f (planes_of g t) (planes_of h t)
+abbrev pub EachOf : (ℕ → ℕ) → List ℕ → List ℕ → Type 0
+EachOf f g h = OverPlanes (λ q r. Each f (words q) (words r)) g h
 
 -- the group has n times 16 bytes of s: planes t of the group have, in bit j of byte c, byte 4 * t + c of block j
 pub record Spread (n : ℕ) (s g : List ℕ) : Type 0 where
@@ -67,11 +73,6 @@ pub record Flipped (q r : List ℕ) : Type 0 where
 -- the planes have the bytes of a word, each in bit 0 of that byte
 pub record Placed (w : ℕ) (q : List ℕ) : Type 0 where
   pub at : (c : ℕ) → c < 4 → byte_at q (8 * c) ≡ byte_of w c
-
--- all four planes of a group
-pub record FlippedAll (g h : List ℕ) : Type 0 where
-  pub size : length h ≡ 32
-  pub at : (t : ℕ) → t < 4 → Flipped (planes_of g t) (planes_of h t)
 
 -- w is the word of the four bytes of s from `at` on, the lowest first
 pub record Word (w : ℕ) (s : List ℕ) (at : ℕ) : Type 0 where

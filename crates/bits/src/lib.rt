@@ -6,12 +6,12 @@
 
 ghost use Rattle.std.specs.Prelude.{◌≡◌, ◌+◌, ◌*◌, ◌≤◌, ◌<◌, length};
 ghost use Rattle.block.specs.Tab.{byte};
-ghost use Rattle.bits.specs.Planes.{words, planes_of, with_planes};
+ghost use Rattle.bits.specs.Planes.{words, planes, with_planes, OverPlanes};
 
 // How bytes are turned into planes of bits, all 32 or one in eight of them.
 mod turn;
 
-pub use turn::{gather, gather_block, merged, shifted, spread, spread_block, word};
+pub use turn::{gather, gather_block, merged, shifted, spread, spread_block};
 
 // Bit i of 32 bytes in word i.
 #[derive(Clone, Copy)]
@@ -26,10 +26,11 @@ pub struct BitPlanes {
     pub p7: u32,
 }
 
-// A group is 32 words, planes t, t + 4, .. t + 28 for each t below 4. The planes at t.
-pub fn planes_at(group: &[u32], t: usize) -> BitPlanes
-    requires { (t < 4) × (length group.now ≡ 32) }
-    ensures { words result ≡ planes_of group.now t }
+// A group is 32 words, planes t, t + 4, .. t + 28 for each t below 4: a gate between the four planes is then one between words that lie side by
+// side. The planes at t.
+pub fn planes_at(group: &[u32; 32], t: usize) -> BitPlanes
+    requires { t < 4 }
+    ensures { result ≡ planes group.now t }
 {
     BitPlanes {
         p0: group[t],
@@ -44,8 +45,8 @@ pub fn planes_at(group: &[u32], t: usize) -> BitPlanes
 }
 
 // Puts planes in the place of those at t.
-pub fn put_planes(group: &mut [u32], t: usize, q: BitPlanes)
-    requires { (t < 4) × (length group.old ≡ 32) }
+pub fn put_planes(group: &mut [u32; 32], t: usize, q: BitPlanes)
+    requires { t < 4 }
     ensures { group.new ≡ with_planes group.old t (words q) }
 {
     group[t] = q.p0;
@@ -56,4 +57,14 @@ pub fn put_planes(group: &mut [u32], t: usize, q: BitPlanes)
     group[t + 20] = q.p5;
     group[t + 24] = q.p6;
     group[t + 28] = q.p7;
+}
+
+// Puts f of them in the place of each planes of the group.
+pub fn over_planes<F: Fn(BitPlanes) -> BitPlanes>(group: &mut [u32; 32], f: F)
+    requires { F.IsAlwaysCallable f }
+    ensures { OverPlanes (F.post f) group.old group.new }
+{
+    for t in 0..4 {
+        put_planes(group, t, f(planes_at(group, t)));
+    }
 }

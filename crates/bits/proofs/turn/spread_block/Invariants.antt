@@ -1,14 +1,9 @@
 -- `bits::turn::spread_block` meets its contract: after t turns the planes below t have their four bytes.
 -- Assumes nothing.
-use mathlib.Core.Path.{◌≡◌}
-use Prim.Native.Nat.{ℕ, ◌-◌, ◌≤◌, ◌<◌}
-use lib.ListN.{length}
+use Prim.Native.Nat.{ℕ, ◌<◌}
 use Rattle.bits.specs.Planes.{planes_of}
 use Rattle.bits.proofs.TurnLaws.{Four}
 use Rattle.bits.proofs.turn.spread_block.Given as goal
 
 abbrev pub invariant-loop-t : goal.invariant-loop-t
-invariant-loop-t l = (l.t ≤ 4) × (length l.s ≡ 16) × (length l.group ≡ 32) × ((u : ℕ) → u < l.t → Four l.s u (planes_of l.group u))
-
-abbrev pub decreases-loop-t : goal.decreases-loop-t
-decreases-loop-t l = 4 - l.t
+invariant-loop-t l = (u : ℕ) → u < l.t → Four l.s u (planes_of l.group u)
