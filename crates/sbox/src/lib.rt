@@ -5,7 +5,7 @@
 // into planes of bits (`bits`), and the inverse in the field and the affine step are gates between planes.
 #![tactic(auto)]
 
-ghost use Rattle.std.specs.Prelude.{◌≡◌, map, ◌++◌, ◌≤◌, length, take, drop};
+ghost use Rattle.std.specs.Prelude.{◌≡◌, ◌%◌, map, length};
 ghost use Rattle.block.specs.Tab.{tab, byte};
 ghost use Rattle.sbox.specs.Sub.{sub, inv_sub, sub_bytes, inv_sub_bytes, sub_word};
 ghost use Rattle.sbox.specs.Directions.{directed};
@@ -18,11 +18,11 @@ mod field_inverse;
 mod planewise;
 
 use affine_step::affine;
-use bits::{merged, shifted, word};
+use bits::{merged, shifted};
 use field_inverse::{bottom, low_inverse, norm, products, top};
 use planewise::substitute;
 
-// SubBytes.
+// SubBytes. It and the next are one function under FIPS 197's two names, which the rounds go by; so are `sub_all` and `inv_sub_all`.
 pub fn sub_bytes(s: [u8; 16]) -> [u8; 16]
     ensures { result ≡ sub_bytes s }
 {
@@ -40,15 +40,9 @@ pub fn inv_sub_bytes(s: [u8; 16]) -> [u8; 16]
 pub fn sub_word(w: [u8; 4]) -> [u8; 4]
     ensures { result ≡ sub_word w }
 {
-    let y = top(shifted(word(&w, 0)));
+    let y = top(shifted(u32::from_le_bytes(w)));
     let u = low_inverse(norm(y));
-    let v = merged(affine(bottom(products(u, y))));
-    [
-        (v % 256) as u8,
-        (v / 256 % 256) as u8,
-        (v / 256 / 256 % 256) as u8,
-        (v / 256 / 256 / 256 % 256) as u8,
-    ]
+    merged(affine(bottom(products(u, y)))).to_le_bytes()
 }
 
 // SubBytes of every byte of s, however many.
@@ -69,55 +63,50 @@ pub fn inv_sub_all(s: &mut [u8])
 fn block_substituted(back: bool, s: [u8; 16]) -> [u8; 16]
     ensures { result ≡ tab 16 (λ i. directed back (byte s i)) }
 {
-    let mut r = s;
-    let mut group = [0u32; 32];
-    bits::spread_block(&r, &mut group);
+    let mut group = bits::spread_block(&s);
     substitute(back, &mut group);
-    bits::gather_block(&group, &mut r);
-    r
+    bits::gather_block(&group)
 }
 
 // Every byte of s: 128 at a time, and a rest below that one by one. AES asks for 256.
 fn all_substituted(back: bool, s: &mut [u8])
     ensures { s.new ≡ map (directed back) s.old }
 {
-    let at = together(back, s);
-    singly(back, s, at);
+    let whole = s.len() / 128 * 128;
+    let (front, rest) = s.split_at_mut(whole);
+    together(back, front);
+    singly(back, rest);
 }
 
-// As many bytes from the front of s as 128 at a time reach, and how many they are.
-fn together(back: bool, s: &mut [u8]) -> usize
-    ensures { (result ≤ length s.new)
-        × (s.new ≡ take result (map (directed back) s.old) ++ drop result s.old) }
+// 128 bytes at a time. By place: of what is written through the chunks that std lends (`chunks_exact_mut`, `as_chunks_mut`) a proof knows nothing.
+fn together(back: bool, s: &mut [u8])
+    requires { length s.old % 128 ≡ 0 }
+    ensures { s.new ≡ map (directed back) s.old }
 {
-    let mut at = 0;
-    while s.len() - at >= 128 {
-        chunk(back, &mut s[at..at + 128]);
-        at += 128;
+    for i in 0..s.len() / 128 {
+        chunk(back, &mut s[128 * i..128 * i + 128]);
     }
-    at
 }
 
-// 128 bytes.
+// 128 bytes. The array is made here, since of one that is made of a part of a slice in the loop a proof knows nothing either.
 fn chunk(back: bool, s: &mut [u8])
     requires { length s.old ≡ 128 }
     ensures { s.new ≡ map (directed back) s.old }
 {
-    let mut group = [0u32; 32];
-    bits::spread(s, &mut group);
-    substitute(back, &mut group);
-    bits::gather(&mut group, s);
+    if let Some(bytes) = s.as_mut_array() {
+        let mut group = [0; 32];
+        bits::spread(bytes, &mut group);
+        substitute(back, &mut group);
+        bits::gather(&mut group, bytes);
+    }
 }
 
-// The bytes of s from `from` on, one by one.
-fn singly(back: bool, s: &mut [u8], from: usize)
-    requires { from ≤ length s.old }
-    ensures { s.new ≡ take from s.old ++ map (directed back) (drop from s.old) }
+// The bytes of s one by one.
+fn singly(back: bool, s: &mut [u8])
+    ensures { s.new ≡ map (directed back) s.old }
 {
-    let mut at = from;
-    while at < s.len() {
-        s[at] = single(back, s[at]);
-        at += 1;
+    for x in s.iter_mut() {
+        *x = single(back, *x);
     }
 }
 
@@ -125,6 +114,5 @@ fn singly(back: bool, s: &mut [u8], from: usize)
 fn single(back: bool, x: u8) -> u8
     ensures { result ≡ directed back x }
 {
-    let r = block_substituted(back, [x; 16]);
-    r[0]
+    block_substituted(back, [x; 16])[0]
 }

@@ -1,12 +1,11 @@
 // The substitution and its inverse of all bytes of bit planes, by the field's rule.
-ghost use Rattle.std.specs.Prelude.{◌≡◌, cond, ◌<◌, length};
 ghost use Rattle.bits.specs.Planes.{words, Each, EachOf};
 ghost use Rattle.sbox.specs.Sub.{sub, inv_sub};
 ghost use Rattle.sbox.specs.Directions.{directed};
 
 use super::affine_step::{affine, unaffine};
 use super::field_inverse::{bottom, low_inverse, norm, products, top};
-use bits::{BitPlanes, planes_at, put_planes};
+use bits::{BitPlanes, over_planes};
 
 // The substitution: the inverse in the field, 0 kept, then the affine step.
 fn substituted(q: BitPlanes) -> BitPlanes
@@ -27,37 +26,12 @@ fn unsubstituted(q: BitPlanes) -> BitPlanes
 }
 
 // The substitution, or with `back` its inverse, of all bytes of a group of planes.
-pub fn substitute(back: bool, group: &mut [u32])
-    requires { length group.old ≡ 32 }
+pub fn substitute(back: bool, group: &mut [u32; 32])
     ensures { EachOf (directed back) group.old group.new }
 {
     if back {
-        inv_sub_group(group)
+        over_planes(group, unsubstituted);
     } else {
-        sub_group(group)
-    }
-}
-
-fn sub_group(group: &mut [u32])
-    requires { length group.old ≡ 32 }
-    ensures { EachOf sub group.old group.new }
-{
-    let mut t = 0;
-    while t < 4 {
-        let q = planes_at(group, t);
-        put_planes(group, t, substituted(q));
-        t += 1;
-    }
-}
-
-fn inv_sub_group(group: &mut [u32])
-    requires { length group.old ≡ 32 }
-    ensures { EachOf inv_sub group.old group.new }
-{
-    let mut t = 0;
-    while t < 4 {
-        let q = planes_at(group, t);
-        put_planes(group, t, unsubstituted(q));
-        t += 1;
+        over_planes(group, substituted);
     }
 }

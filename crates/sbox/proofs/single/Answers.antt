@@ -7,4 +7,4 @@ use Rattle.block.specs.Tab.{byte}
 use Rattle.sbox.proofs.single.Goals as goal
 
 pub returns : goal.returns
-returns c = ap (λ (r : List ℕ). byte r 0) c.block_substituted-r.ensures
+returns c = ap (λ (r : List ℕ). byte r 0) c.block_substituted.ensures

@@ -1,17 +1,11 @@
--- `sbox::together` meets its contract: after a turn the bytes below `at` are done, and the others as they came.
+-- `sbox::together` meets its contract: after i turns the first 128 i bytes are done, and the others as they came.
 -- Assumes nothing.
 use mathlib.Core.Path.{◌≡◌}
 use mathlib.Core.List.{◌++◌, map}
-use Prim.Native.Nat.{◌-◌, ◌≤◌}
-use lib.ListN.{length, take, drop}
+use Prim.Native.Nat.{◌*◌}
+use lib.ListN.{take, drop}
 use Rattle.sbox.specs.Directions.{directed}
 use Rattle.sbox.proofs.together.Given as goal
 
-abbrev pub invariant-loop-s : goal.invariant-loop-s
-invariant-loop-s l =
-    (l.at ≤ length l.initial.s)
-    × (length l.s ≡ length l.initial.s)
-    × (l.s ≡ take l.at (map (directed l.back) l.initial.s) ++ drop l.at l.initial.s)
-
-abbrev pub decreases-loop-s : goal.decreases-loop-s
-decreases-loop-s l = length l.initial.s - l.at
+abbrev pub invariant-loop-i : goal.invariant-loop-i
+invariant-loop-i l = l.s ≡ take (128 * l.i) (map (directed l.back) l.initial.s) ++ drop (128 * l.i) l.initial.s
