@@ -3,27 +3,22 @@
 use Rattle.std.specs.Prelude.{Ok, Err, Result, ⊤}
 use mathlib.Core.Path.{◌≡◌, refl, sym, ap, ap₂, ◌∙◌, subst}
 use mathlib.Core.Bool.{Bool, true, false, cond, not}
-use mathlib.Core.List.{List, [], ◌++◌}
-use Prim.Native.Nat.{ℕ, ◌+◌, ◌-◌, ◌<◌}
+use mathlib.Core.List.{List, []}
+use Prim.Native.Nat.{ℕ, ◌-◌, ◌<◌}
 use native.Mathlib.Omega.{arith}
 use lib.Dec.{eqb}
-use lib.ListN.{length, take, drop}
+use lib.ListN.{length, take}
 use lib.Seq.{take_at}
-use borrow.Rule.Slice.PartMut.{put_mid}
+use borrow.Rule.Slice.PartMut.{post_of, put_mid}
 use Rattle.block.specs.Bytes.{Bytes}
-use Rattle.block.proofs.PartLaws.{part_changed}
 use Rattle.numbers.specs.declared.Refusal.{Refusal}
 use Rattle.numbers.specs.declared.Refusal.TheVariants.{XtsKeyLength, UnitLength}
 use Rattle.numbers.specs.Numbers.{paper, answer_paper}
 use Rattle.numbers.proofs.NumberLaws.{paper_apart}
 use Rattle.records.specs.Record.{text_most}
-use Rattle.plans.specs.declared.Plan.{Plan}
-use Rattle.plans.specs.declared.Plan.TheVariants.{Refuse, At}
-use Rattle.plans.specs.Plans.{add_plan}
+use Rattle.plans.specs.Plans.{Plan, add_plan}
 use Rattle.plans.proofs.PlanLaws.{add_says, add_by_length}
-use Rattle.store.specs.declared.Stored.{Stored}
-use Rattle.store.specs.declared.Stored.TheVariants.{Refused}
-use Rattle.store.specs.Calls.{add_answer, add_store, AddCalled}
+use Rattle.store.specs.Calls.{Stored, add_answer, add_store, AddCalled}
 use Rattle.store.specs.Conversions.{Source, refuses, gives, convert_answer, convert_store, ConvertCalled}
 use Rattle.xts.specs.Xts.{key_taken, bad_unit, number, xts, afterwards}
 use Rattle.xts.proofs.Promise.{length_kept, bytes_kept}
@@ -92,8 +87,8 @@ module _ (k : List ℕ) (i : ℕ) (u : List ℕ) where
 
 module _ (o w s : List ℕ) (n : ℕ) (t : List ℕ) (long : text_most < length t) where
   plan_refused : (p : Plan) → add_plan o w s n t ≡ p → (t' : List ℕ) → add_store w s n t p ≡ add_store w s n t' p
-  plan_refused (Refuse x) e t' = refl
-  plan_refused (At k) e t' = let z : ⊥ = omega (arith, (add_says o w s n t k e).fits) in absurd z
+  plan_refused (Err x) e t' = refl
+  plan_refused (Ok k) e t' = let z : ⊥ = omega (arith, (add_says o w s n t k e).fits) in absurd z
 
   -- what add answers and leaves is that of any other text of the length
   pub too_long : (t' : List ℕ) → length t' ≡ length t
@@ -107,7 +102,7 @@ module _ (o w s : List ℕ) (n : ℕ) (t : List ℕ) (long : text_most < length 
 
 module _ (o w s : List ℕ) (n : ℕ) (k : List ℕ) (i : ℕ) (u : List ℕ) where
   pub refused_so : (r : Result ⊤ Refusal) (x : Refusal) → answer_paper r ≡ number (length k) (length u) → r ≡ Err x
-      → ConvertCalled o w s n (xts_source k i u) (Refused x) s
+      → ConvertCalled o w s n (xts_source k i u) (Err x) s
   refused_so r x e q =
       let c : xts_source k i u ≡ refuses x = source_answer k i u r e ∙ ap (λ (y : Result ⊤ Refusal). comes_to y (xts true k i u)) q in
       (sym (ap (convert_answer o w s n) c), sym (ap (convert_store o w s n) c))
@@ -126,17 +121,12 @@ module _ (o w s : List ℕ) (n : ℕ) (k : List ℕ) (i : ℕ) (u : List ℕ) wh
         added_so t refl (c.0 ∙ d.0, c.1 ∙ d.1)
 
 -- the unit copied to the front of the room, and deciphered there
-pub laid : (k : List ℕ) (i : ℕ) (u room room1 x : List ℕ) (l : ℕ) → Bytes k → Bytes u → Taken k u → l ≡ length u
-    → room1 ≡ take 0 room ++ (u ++ drop (0 + length u) room)
-    → x ≡ afterwards true k i (take (l - 0) (drop 0 room1))
-    → take (l - 0) (drop 0 (put_mid 0 (l - 0) room1 x)) ≡ xts true k i u
-laid k i u room room1 x l bk bu e m q y =
-    let d : List ℕ = drop (0 + length u) room in
-    let j : l - 0 ≡ length u = omega arith in
-    let t : take (l - 0) (drop 0 room1) ≡ u = ap₂ take j q ∙ take_at u d (length u) refl in
-    let left : x ≡ afterwards true k i u = y ∙ ap (afterwards true k i) t in
+pub laid : (k : List ℕ) (i : ℕ) (u room y x : List ℕ) → Bytes k → Bytes u → Taken k u → y ≡ u
+    → x ≡ afterwards true k i (take (length u - 0) (put_mid 0 (length u - 0) room y))
+    → take (length u) (put_mid 0 (length u - 0) (put_mid 0 (length u - 0) room y) x) ≡ xts true k i u
+laid k i u room y x bk bu e s z =
+    let n : ℕ = length u - 0 in
+    let j : length y ≡ n = omega (arith, ap length s) in
+    let left : x ≡ afterwards true k i u = z ∙ ap (afterwards true k i) (take_at y (post_of 0 n room) n j ∙ s) in
     let long : length x ≡ length u = ap length left ∙ length_kept true k i u bk bu in
-    ap (take (l - 0)) (part_changed 0 l room1 x (omega arith))
-    ∙ take_at x (drop l room1) (l - 0) (omega arith)
-    ∙ left
-    ∙ deciphered k i u e
+    take_at x (post_of 0 n (put_mid 0 n room y)) (length u) long ∙ left ∙ deciphered k i u e
