@@ -1,12 +1,13 @@
 -- 01, Listing: the whole output of the listing program from the bytes of its input, and what the function that writes it promises.
 -- Texts are lists of ASCII.
 -- Assumes nothing.
-use Rattle.std.specs.Prelude.{cond, ◌≡◌, List, [], ◌∷◌, ◌++◌, ℕ, zero, suc, ◌*◌, ltb, length}
+use Rattle.std.specs.Prelude.{cond, ◌≡◌, List, [], ◌∷◌, ◌++◌, Result, Ok, Err, ℕ, zero, suc, ◌*◌, ltb, length}
+use Rattle.numbers.specs.declared.Refusal.{Refusal}
 use Rattle.numbers.specs.Numbers.{paper}
 use Rattle.records.specs.Record.{record_size, num, rev, mark, len}
 use Rattle.slots.specs.Slots.{slots, slot}
 use Rattle.checking.specs.declared.Checked.{Checked}
-use Rattle.checking.specs.declared.Checked.TheVariants.{Counts, Fault, Refused}
+use Rattle.checking.specs.declared.Checked.TheVariants.{Counts, Fault}
 use Rattle.checking.specs.Check.{used, check_answer}
 use Rattle.lines.specs.Decimal.{decimal}
 use Rattle.lines.specs.Laid.{overlay}
@@ -65,8 +66,11 @@ unfoldable pub line : ℕ → List ℕ → List ℕ
 line k r = field k space ++ (field (num r) space ++ (field (rev r) space ++ (field (mark r) space ++ field (len r) newline)))
 
 -- a free slot has none
+abbrev pub record_line : ℕ → List ℕ → List ℕ
+record_line k r = cond (used r) (line k r) []
+
 unfoldable pub slot_line : List ℕ → ℕ → List ℕ
-slot_line s k = cond (used (slot s k)) (line k (slot s k)) []
+slot_line s k = record_line k (slot s k)
 
 -- the lines of the slots below n, in their order
 unfoldable pub lines : List ℕ → ℕ → List ℕ
@@ -81,10 +85,10 @@ counts_line u f c o n =
 -- ---- the output
 
 -- what is printed of a store that check answers so
-abbrev pub report : List ℕ → Checked → List ℕ
-report s (Counts u f c o n) = lines s (slots s) ++ counts_line u f c o n
-report s (Fault k) = named fault_at k newline
-report s (Refused x) = named refused (paper x) newline
+abbrev pub report : List ℕ → Result Checked Refusal → List ℕ
+report s (Ok (Counts c)) = lines s (slots s) ++ counts_line c.used c.free c.clear c.old c.new
+report s (Ok (Fault k)) = named fault_at k newline
+report s (Err x) = named refused (paper x) newline
 
 -- and of any input
 unfoldable pub listing : List ℕ → List ℕ

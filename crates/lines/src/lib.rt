@@ -14,7 +14,7 @@ ghost use Rattle.std.specs.Prelude.{◌+◌, ◌≤◌};
 ghost use Rattle.lines.specs.Laid.{room, Laid};
 ghost use Rattle.lines.specs.Listing.{counts_line, Listed};
 
-use checking::Checked;
+use checking::{Checked, Counts};
 use decimals::named;
 use laying::text;
 use records::RECORD_SIZE;
@@ -32,29 +32,23 @@ pub fn list(store: &[u8], out: &mut [u8]) -> usize
         return text(out, 0, b"too long\n");
     }
     match checking::check(store) {
-        Checked::Refused(_) => named(out, 0, b"refused ", 4, b'\n'),
-        Checked::Fault(k) => named(out, 0, b"fault at ", k as usize, b'\n'),
-        Checked::Counts {
-            used,
-            free,
-            clear,
-            old,
-            new,
-        } => {
+        Err(x) => named(out, 0, b"refused ", u32::from(x) as usize, b'\n'),
+        Ok(Checked::Fault(k)) => named(out, 0, b"fault at ", k as usize, b'\n'),
+        Ok(Checked::Counts(c)) => {
             let at = used_lines(out, store);
-            counts(out, at, used, free, clear, old, new)
+            counts(out, at, c)
         }
     }
 }
 
 // The line of the five counts.
-fn counts(out: &mut [u8], at: usize, used: u32, free: u32, clear: u32, old: u32, new: u32) -> usize
+fn counts(out: &mut [u8], at: usize, c: Counts) -> usize
     requires { at + 129 ≤ room }
-    ensures { (Laid (counts_line used free clear old new) at out.old result out.new) × (result ≤ at + 129) }
+    ensures { (Laid (counts_line c.used c.free c.clear c.old c.new) at out.old result out.new) × (result ≤ at + 129) }
 {
-    let at = named(out, at, b"used ", used as usize, b' ');
-    let at = named(out, at, b"free ", free as usize, b' ');
-    let at = named(out, at, b"clear ", clear as usize, b' ');
-    let at = named(out, at, b"old ", old as usize, b' ');
-    named(out, at, b"new ", new as usize, b'\n')
+    let at = named(out, at, b"used ", c.used as usize, b' ');
+    let at = named(out, at, b"free ", c.free as usize, b' ');
+    let at = named(out, at, b"clear ", c.clear as usize, b' ');
+    let at = named(out, at, b"old ", c.old as usize, b' ');
+    named(out, at, b"new ", c.new as usize, b'\n')
 }

@@ -1,33 +1,29 @@
 // A line for each used slot.
-ghost use Rattle.std.specs.Prelude.{◌≡◌, ◌+◌, ◌≤◌, ◌<◌, length};
-ghost use Rattle.records.specs.Record.{record_size};
+ghost use Rattle.std.specs.Prelude.{◌+◌, ◌≤◌};
 ghost use Rattle.slots.specs.Slots.{slots};
 ghost use Rattle.lines.specs.Laid.{room, Laid};
-ghost use Rattle.lines.specs.Listing.{line, slot_line, lines};
+ghost use Rattle.lines.specs.Listing.{line, record_line, lines};
 
 use super::decimals::field;
+use records::RECORD_SIZE;
 
 // The lines of all slots.
 pub fn used_lines(out: &mut [u8], store: &[u8]) -> usize
     requires { slots store.now ≤ 31 }
     ensures { (Laid (lines store.now (slots store.now)) 0 out.old result out.new) × (result ≤ 3255) }
 {
-    let count = slots::count(store);
     let mut at = 0;
-    let mut k = 0;
-    while k < count {
-        at = slot_line(out, at, store, k);
-        k += 1;
+    for (k, r) in slots::records_of(store).iter().enumerate() {
+        at = slot_line(out, at, k, r);
     }
     at
 }
 
-// The line of slot k, and nothing if it is free.
-fn slot_line(out: &mut [u8], at: usize, store: &[u8], k: usize) -> usize
-    requires { (at + 105 ≤ room) × (k < slots store.now) }
-    ensures { (Laid (slot_line store.now k) at out.old result out.new) × (result ≤ at + 105) }
+// The line of slot k, whose record is r, and nothing if it is free.
+fn slot_line(out: &mut [u8], at: usize, k: usize, r: &[u8; RECORD_SIZE]) -> usize
+    requires { at + 105 ≤ room }
+    ensures { (Laid (record_line k r.now) at out.old result out.new) × (result ≤ at + 105) }
 {
-    let r = slots::record_at(store, k);
     if records::number(r) == 0 {
         return at;
     }
@@ -35,8 +31,8 @@ fn slot_line(out: &mut [u8], at: usize, store: &[u8], k: usize) -> usize
 }
 
 // Slot, sheet, revision, mark, length.
-fn line(out: &mut [u8], at: usize, k: usize, r: &[u8]) -> usize
-    requires { (at + 105 ≤ room) × (length r.now ≡ record_size) }
+fn line(out: &mut [u8], at: usize, k: usize, r: &[u8; RECORD_SIZE]) -> usize
+    requires { at + 105 ≤ room }
     ensures { (Laid (line k r.now) at out.old result out.new) × (result ≤ at + 105) }
 {
     let at = field(out, at, k, b' ');
