@@ -93,6 +93,14 @@ record_outcome r =
 unfoldable pub outcome_at : List ℕ → ℕ → Outcome
 outcome_at s k = cond (leb (slots s) k) outcome.Done (record_outcome (slot s k))
 
+-- an outcome's number, in 01's order
+abbrev pub outcome_number : Outcome → ℕ
+outcome_number outcome.Done = 0
+outcome_number outcome.Free = 1
+outcome_number outcome.Damaged = 2
+outcome_number outcome.Already = 3
+outcome_number outcome.Converted = 4
+
 -- the place is moved on by one, but for done
 abbrev pub moved_from : ℕ → Outcome → ℕ
 moved_from k outcome.Done = k

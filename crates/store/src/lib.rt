@@ -4,6 +4,8 @@
 // says. Contracts cite `specs/Calls.antt`: what a call answers and the bytes afterwards, by equations.
 #![tactic(auto)]
 
+ghost use Rattle.std.specs.Prelude.{◌≡◌};
+ghost use Rattle.store.specs.Calls.{outcome_number};
 // Read.
 mod reading;
 // One step of the rekeying job.
@@ -30,6 +32,21 @@ pub enum Outcome {
     Damaged,
     Already,
     Converted,
+}
+
+// The number of an outcome, which the calls for C answer.
+impl From<Outcome> for u32 {
+    ghost from_gives = { λ x n. n ≡ outcome_number x };
+
+    fn from(x: Outcome) -> u32 {
+        match x {
+            Outcome::Done => 0,
+            Outcome::Free => 1,
+            Outcome::Damaged => 2,
+            Outcome::Already => 3,
+            Outcome::Converted => 4,
+        }
+    }
 }
 
 // What a step comes to: its outcome, and the job's place afterwards.
