@@ -4,12 +4,6 @@ ghost use Rattle.lagunedo.specs.Calls.{XtsCalled, XtsBlockCalled};
 
 use numbers::answer_number;
 
-#[derive(Clone, Copy)]
-struct BlockValues {
-    number: u32,
-    block: [u8; 16],
-}
-
 // Overwrites the unit with its encipherment under the key and the unit's number; 15, 16.
 pub fn lagunedo_xts_encipher(key: &[u8], number: u64, unit: &mut [u8]) -> u32
     ensures { XtsCalled false key.now number unit.old result unit.new }
@@ -25,31 +19,15 @@ pub fn lagunedo_xts_decipher(key: &[u8], number: u64, unit: &mut [u8]) -> u32
 }
 
 // Block k of the unit, deciphered by itself; 15, 16, 17.
+#[tactic(auto, using(crate::proofs::XtsLaws::block_given, crate::proofs::XtsLaws::block_kept))]
 pub fn lagunedo_xts_block(key: &[u8], number: u64, unit: &[u8], k: u64, block: &mut [u8; 16]) -> u32
     ensures { XtsBlockCalled key.now number unit.now k block.old result block.new }
 {
-    let a = block_values(key, number, unit, k, *block);
-    let b = a.block;
-    *block = b;
-    a.number
-}
-
-// What the call for block k gives; `before` stays if it is refused.
-#[tactic(auto, using(crate::proofs::XtsLaws::block_given, crate::proofs::XtsLaws::block_kept))]
-fn block_values(key: &[u8], number: u64, unit: &[u8], k: u64, before: [u8; 16]) -> BlockValues
-    ensures { XtsBlockCalled key.now number unit.now k before result.number result.block }
-{
-    let a = xts::block_alone(key, number, unit, k);
-    let x = a.answer;
-    let b = a.block;
-    match x {
-        Ok(()) => BlockValues {
-            number: 0,
-            block: b,
-        },
-        Err(y) => BlockValues {
-            number: u32::from(y),
-            block: before,
-        },
+    match xts::block_alone(key, number, unit, k) {
+        Ok(b) => {
+            *block = b;
+            0
+        }
+        Err(x) => u32::from(x),
     }
 }
