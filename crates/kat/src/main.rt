@@ -86,7 +86,7 @@ fn set_up(rt: &impl Print, key: &[u8]) -> io::Result<()> {
         return print_number(rt, Err(Refusal::KeyLength));
     }
     let keys = aes::key_setup(key);
-    let [.., a, b, c, d] = keys[aes::rounds_of(key.len())];
+    let [.., a, b, c, d] = keys.keys[keys.rounds];
     print_number(rt, Ok(()))?;
     print_bytes(rt, &[a, b, c, d])
 }
