@@ -1,3 +1,3 @@
 -- What is proved of the probe's promises.
-pub mod WideLadder
+pub mod WideLaws
 pub mod Determined
