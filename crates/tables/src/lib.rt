@@ -16,26 +16,6 @@ mod table;
 use inverse_table::INV_SBOX;
 use table::SBOX;
 
-// What the table has for x.
-fn at(t: &[u8; 256], x: u8) -> u8
-    ensures { result ≡ byte t.now x }
-{
-    t[x as usize]
-}
-
-// What the table has for each byte of s.
-fn looked_up(t: &[u8; 256], s: [u8; 16]) -> [u8; 16]
-    ensures { result ≡ looked_up 16 t.now s }
-{
-    let mut r = s;
-    let mut i = 0;
-    while i < 16 {
-        r[i] = at(t, s[i]);
-        i += 1;
-    }
-    r
-}
-
 // SubBytes. The table is copied to a local once and lent: a constant that is indexed is copied at every look-up.
 pub fn sub_bytes(s: [u8; 16]) -> [u8; 16]
     ensures { result ≡ sub_bytes s }
@@ -57,7 +37,7 @@ pub fn sub_word(w: [u8; 4]) -> [u8; 4]
     ensures { result ≡ sub_word w }
 {
     let t = SBOX;
-    [at(&t, w[0]), at(&t, w[1]), at(&t, w[2]), at(&t, w[3])]
+    looked_up(&t, w)
 }
 
 // SubBytes of every byte of s, however many.
@@ -76,13 +56,20 @@ pub fn inv_sub_all(s: &mut [u8])
     all_looked_up(&t, s)
 }
 
+// What the table has for each byte of an array.
+fn looked_up<const N: usize>(t: &[u8; 256], s: [u8; N]) -> [u8; N]
+    ensures { result ≡ looked_up N t.now s.entry }
+{
+    let mut r = s;
+    all_looked_up(t, &mut r);
+    r
+}
+
 // What the table has for each byte of s, in its place.
 fn all_looked_up(t: &[u8; 256], s: &mut [u8])
     ensures { s.new ≡ map (byte t.now) s.old }
 {
-    let mut i = 0;
-    while i < s.len() {
-        s[i] = at(t, s[i]);
-        i += 1;
+    for x in s.iter_mut() {
+        *x = t[*x as usize];
     }
 }

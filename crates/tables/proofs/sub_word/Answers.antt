@@ -1,15 +1,8 @@
--- `tables::sub_word` meets its contract: each byte is what the table has for it.
+-- `tables::sub_word` meets its contract: the table that is lent is the one of the definition.
 -- Assumes nothing.
-use mathlib.Core.List.{[], ◌∷◌}
 use Rattle.sbox.specs.Sub.{sub, sub_word}
 use Rattle.tables.proofs.sub_word.Goals as goal
 
 pub returns : goal.returns
 unfolding sub sub_word
-returns c =
-    λ i.
-    c.at.ensures i
-    ∷ c.at-2.ensures i
-    ∷ c.at-3.ensures i
-    ∷ c.at-4.ensures i
-    ∷ []
+returns c = c.looked_up.ensures
