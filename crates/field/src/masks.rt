@@ -13,6 +13,7 @@ pub fn mask(s: &mut [u8], l: [u8; 16]) -> [u8; 16]
     for k in 0..s.len() / 16 {
         let x = block::load(s, 16 * k);
         block::put(s, 16 * k, block::xor(x, m));
+        // By `next`: the check makes no proof of a call whose result is laid in an array that stands already.
         let next = block::doubled(m);
         m = next;
     }

@@ -14,7 +14,9 @@ pub fn blocks(back: bool, keys: RoundKeys, m1: [u8; 16], s: &mut [u8])
     ensures { s.new ≡ take 16 s.old ++ on_blocks (middle (crypted back keys.keys keys.rounds) m1 2 m1) (drop 16 s.old) }
 {
     let mut m = m1;
+    // A loop of its own beside field::mask: one walk that takes what is done to a block as a closure says of it a relation, and is no plainer.
     for k in 1..s.len() / 16 {
+        // By `next`: the check makes no proof of a call whose result is laid in an array that stands already.
         let next = one(back, keys, m1, m, s, k);
         m = next;
     }
