@@ -7,5 +7,6 @@ use Rattle.numbers.proofs.NumberLaws.{paper_apart}
 use Rattle.aes.specs.Calls.{Called}
 
 -- two answers that keep the promise are equal, and so are the bytes afterwards
-pub called_determined : (back : Bool) (k b : List ℕ) (a a' : Result ⊤ Refusal) (s s' : List ℕ) → Called back k b a s → Called back k b a' s' → (a ≡ a') × (s ≡ s')
+pub called_determined : (back : Bool) (k b : List ℕ) (a a' : Result ⊤ Refusal) (s s' : List ℕ) → Called back k b a s → Called back k b a' s'
+    → (a ≡ a') × (s ≡ s')
 called_determined back k b a a' s s' p q = (paper_apart a a' (p.0 ∙ sym q.0), p.1 ∙ sym q.1)

@@ -1,29 +1,13 @@
 // Up to sixteen blocks at once, in planes (crate `planes`).
-ghost use Rattle.std.specs.Prelude.{◌≡◌, ◌++◌, map, ◌+◌, ◌*◌, ◌≤◌, ◌<◌, min, length, take, drop};
-ghost use Rattle.block.specs.Blocks.{blocks, join, on_blocks};
+ghost use Rattle.std.specs.Prelude.{◌≡◌, ◌++◌, map, ◌+◌, ◌*◌, ◌≤◌, ◌<◌, length, take, drop};
+ghost use Rattle.block.specs.Blocks.{blocks, join};
 ghost use Rattle.planes.specs.Lanes.{Lanewise};
 ghost use Rattle.cipher.specs.Cipher.{cipher, inv_cipher, crypted};
 
 use rounds::RoundKeys;
 
-// Blocks of s from its start on, sixteen at a time and then what is left if it is three or more: fewer are quicker one by one. Answers
-// the place after them.
-pub fn together(back: bool, keys: RoundKeys, s: &mut [u8]) -> usize
-    ensures { (result ≤ length s.new)
-        × (take result s.new ++ on_blocks (map (crypted back keys.keys keys.rounds)) (drop result s.new)
-        ≡ on_blocks (map (crypted back keys.keys keys.rounds)) s.old) }
-{
-    let mut at = 0;
-    while s.len() - at >= 48 {
-        let n = ((s.len() - at) / 16).min(16);
-        group(back, keys, s, at, n);
-        at += 16 * n;
-    }
-    at
-}
-
 // The n blocks of s from `at` on. Every other byte of s is kept.
-fn group(back: bool, keys: RoundKeys, s: &mut [u8], at: usize, n: usize)
+pub fn group(back: bool, keys: RoundKeys, s: &mut [u8], at: usize, n: usize)
     requires { (n ≤ 16) × (at + 16 * n ≤ length s.old) }
     ensures { s.new
         ≡ take at s.old ++ join (map (crypted back keys.keys keys.rounds) (blocks n (drop at s.old))) ++ drop (at + 16 * n) s.old }
@@ -46,7 +30,7 @@ fn crypt_lanes(back: bool, keys: RoundKeys, b: &mut [u8; 256], a: &mut [u8; 256]
     }
 }
 
-// Cipher.
+// Cipher. This and `inverse` are lib.rt's over planes; one for both, over a trait, would need the steps twice, as long as these two functions.
 fn forward(keys: RoundKeys, b: &mut [u8; 256], a: &mut [u8; 256])
     ensures { Lanewise (cipher keys.keys keys.rounds) b.old a.new }
 {

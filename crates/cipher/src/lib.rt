@@ -25,24 +25,32 @@ pub fn crypt(back: bool, keys: RoundKeys, b: [u8; 16]) -> [u8; 16]
     }
 }
 
-// Every full block of s in place; the bytes after them are kept.
+// Every full block of s in place; the bytes after them are kept. Sixteen blocks at a time, and then those that are left if they are three
+// or more: fewer are quicker one by one.
 pub fn crypt_blocks(back: bool, keys: RoundKeys, s: &mut [u8])
     ensures { s.new ≡ on_blocks (map (crypted back keys.keys keys.rounds)) s.old }
 {
-    let at = lanes::together(back, keys, s);
-    singly(back, keys, s, at);
+    let groups = s.len() / 256;
+    for i in 0..groups {
+        lanes::group(back, keys, s, 256 * i, 16);
+    }
+    let at = 256 * groups;
+    let n = (s.len() - at) / 16;
+    if n >= 3 {
+        lanes::group(back, keys, s, at, n);
+    } else {
+        singly(back, keys, s, at);
+    }
 }
 
-// Every full block of s from `from` on, one after the other.
-fn singly(back: bool, keys: RoundKeys, s: &mut [u8], from: usize)
-    requires { from ≤ length s.old }
-    ensures { s.new ≡ take from s.old ++ on_blocks (map (crypted back keys.keys keys.rounds)) (drop from s.old) }
+// Every full block of s from `at` on, one after the other; every other byte of s is kept.
+fn singly(back: bool, keys: RoundKeys, s: &mut [u8], at: usize)
+    requires { at ≤ length s.old }
+    ensures { s.new ≡ take at s.old ++ on_blocks (map (crypted back keys.keys keys.rounds)) (drop at s.old) }
 {
-    let mut at = from;
-    while s.len() - at >= 16 {
-        let x = block::load(s, at);
-        block::put(s, at, crypt(back, keys, x));
-        at += 16;
+    for i in 0..(s.len() - at) / 16 {
+        let x = block::load(s, at + 16 * i);
+        block::put(s, at + 16 * i, crypt(back, keys, x));
     }
 }
 

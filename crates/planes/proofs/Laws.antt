@@ -3,6 +3,8 @@
 use mathlib.Core.Path.{◌≡◌, refl, sym, ap, ap₂, ◌∙◌}
 use mathlib.Core.Bool.{Bool, true, false, cond}
 use mathlib.Core.List.{List, ◌∷◌, ◌++◌, map, append_assoc, append-nil}
+use Rattle.std.proofs.Common.{subst}
+use Rattle.std.proofs.lemmas.List.{ext_get_or}
 use Prim.Native.Nat.{ℕ, zero, suc, ◌+◌, ◌-◌, ◌*◌, ◌/◌, ◌%◌, ◌≤◌, ◌<◌}
 use native.Mathlib.Nat.{add_comm, add-zero, mul-le-mul}
 use native.Mathlib.Numerals.{add-one}
@@ -63,35 +65,66 @@ module _ (d y : List ℕ) (at : ℕ) (h : at + 16 ≤ length d) (k : length y �
       ∙ get_or-drop (at + 16) d (i - (at + 16)) 0
       ∙ ap (λ (n : ℕ). byte d n) (sym e)
 
+-- two lists with the same bytes there have the same block there
+same_block : (s t : List ℕ) (at : ℕ) → at + 16 ≤ length s → at + 16 ≤ length t → ((l : ℕ) → l < 16 → byte s (at + l) ≡ byte t (at + l))
+    → block_at s at ≡ block_at t at
+same_block s t at h k e =
+    let n : length (block_at s at) ≡ 16 = length-block_at s at h in
+    ext_get_or 0 (block_at s at) (block_at t at) (n ∙ sym (length-block_at t at k))
+    (λ l i. byte_block s at l (omega arith) ∙ e l (omega arith) ∙ sym (byte_block t at l (omega arith)))
+
 -- ---- a pass: one plane a turn
 
--- of d₀ the first p planes are replaced by those of the blocks x
-pub record Made (x : ℕ → List ℕ) (d₀ d : List ℕ) (p : ℕ) : Type 0 where
-  pub size : length d ≡ 256
-  pub done : (q : ℕ) → q < p → (l : ℕ) → l < 16 → byte d (16 * q + l) ≡ byte (x l) q
-  pub left : (i : ℕ) → 16 * p ≤ i → byte d i ≡ byte d₀ i
+module _ (d y : List ℕ) (p : ℕ) (n : length d ≡ 256) (k : length y ≡ 16) (h : p < 16) where
+  room : 16 * p + 16 ≤ length d
+  room = omega arith
 
-pub made_none : {x : ℕ → List ℕ} {d : List ℕ} → length d ≡ 256 → Made x d d 0
-made_none h = record { size = h; done = λ q k. omega arith; left = λ i k. refl }
+  size : length (with_block d (16 * p) y) ≡ 256
+  size = length-with_block d (16 * p) y room k ∙ n
 
-pub made_more : {x : ℕ → List ℕ} {d₀ d d' : List ℕ} {p : ℕ} → Made x d₀ d p → p < 16
-    → (y : List ℕ) → length y ≡ 16 → d' ≡ with_block d (16 * p) y → Plane p x y → Made x d₀ d' (p + 1)
-made_more {x} {d₀} {d} {d'} {p} m h y k e f =
-    let n : 16 * p + 16 ≤ length d = omega (arith, m.size) in
+  plane_put : block_at (with_block d (16 * p) y) (16 * p) ≡ y
+  plane_put =
+      let l : length (block_at (with_block d (16 * p) y) (16 * p)) ≡ 16 = length-block_at (with_block d (16 * p) y) (16 * p) (omega (arith, size)) in
+      ext_get_or 0 (block_at (with_block d (16 * p) y) (16 * p)) y (l ∙ sym k)
+      (λ i j. byte_block (with_block d (16 * p) y) (16 * p) i (omega arith) ∙ put_there d y (16 * p) room k i (omega arith))
+
+  plane_before : (q : ℕ) → q < p → block_at (with_block d (16 * p) y) (16 * q) ≡ block_at d (16 * q)
+  plane_before q j =
+      same_block (with_block d (16 * p) y) d (16 * q) (omega (arith, size)) (omega arith)
+      (λ l i. put_before d y (16 * p) room k (16 * q + l) (omega arith))
+
+  plane_after : (q : ℕ) → p < q → q < 16 → block_at (with_block d (16 * p) y) (16 * q) ≡ block_at d (16 * q)
+  plane_after q j g =
+      same_block (with_block d (16 * p) y) d (16 * q) (omega (arith, size)) (omega arith)
+      (λ l i. put_after d y (16 * p) room k (16 * q + l) (omega arith))
+
+-- of d₀ the first p planes are made anew, and the others stand as they came
+pub record Anew (made : ℕ → List ℕ → List ℕ → Type 0) (d₀ d : List ℕ) (p : ℕ) : Type 0 where
+  pub done : (q : ℕ) → q < p → made q (block_at d₀ (16 * q)) (block_at d (16 * q))
+  pub left : (q : ℕ) → p ≤ q → q < 16 → block_at d (16 * q) ≡ block_at d₀ (16 * q)
+
+pub anew_none : {made : ℕ → List ℕ → List ℕ → Type 0} {d : List ℕ} → Anew made d d 0
+anew_none = record { done = λ q k. absurd (omega arith); left = λ q i j. refl }
+
+pub anew_more : {made : ℕ → List ℕ → List ℕ → Type 0} {d₀ d : List ℕ} {p : ℕ} → Anew made d₀ d p → p < 16 → length d ≡ 256
+    → (x y d' : List ℕ) → length y ≡ 16 → x ≡ block_at d (16 * p) → d' ≡ with_block d (16 * p) y → made p x y → Anew made d₀ d' (p + 1)
+anew_more {made} {d₀} {d} {p} m h n x y d' k e f t =
+    let at : (q : ℕ) → block_at d' (16 * q) ≡ block_at (with_block d (16 * p) y) (16 * q) = λ q. ap (λ (u : List ℕ). block_at u (16 * q)) f in
     record {
-      size = ap length e ∙ length-with_block d (16 * p) y n k ∙ m.size;
       done =
-          below_more (λ q. (l : ℕ) → l < 16 → byte d' (16 * q + l) ≡ byte (x l) q) p
-          (λ q i l j. ap (λ (t : List ℕ). byte t (16 * q + l)) e ∙ put_before d y (16 * p) n k (16 * q + l) (omega arith) ∙ m.done q i l j)
-          (λ l j. ap (λ (t : List ℕ). byte t (16 * p + l)) e ∙ put_there d y (16 * p) n k l j ∙ f l j);
-      left = λ i j. ap (λ (t : List ℕ). byte t i) e ∙ put_after d y (16 * p) n k i (omega arith) ∙ m.left i (omega arith);
+          below_more (λ q. made q (block_at d₀ (16 * q)) (block_at d' (16 * q))) p
+          (λ q i. subst (λ (b : List ℕ). made q (block_at d₀ (16 * q)) b) (sym (at q ∙ plane_before d y p n k h q i)) (m.done q i))
+          (subst (λ (b : List ℕ). made p (block_at d₀ (16 * p)) b) (sym (at p ∙ plane_put d y p n k h))
+          (subst (λ (b : List ℕ). made p b y) (e ∙ m.left p (omega arith) h) t));
+      left = λ q i j. at q ∙ plane_after d y p n k h q (omega arith) j ∙ m.left q (omega arith) j;
     }
 
-pub made_all : {x : ℕ → List ℕ} {d₀ d : List ℕ} {p : ℕ} → Made x d₀ d p → 16 ≤ p → ((l : ℕ) → l < 16 → length (x l) ≡ 16)
-    → (l : ℕ) → l < 16 → lane d l ≡ x l
+-- each of the planes is that of the blocks x: then each lane is one of them
+pub lanes_made : (x : ℕ → List ℕ) (d : List ℕ) → ((l : ℕ) → l < 16 → length (x l) ≡ 16)
+    → ((p : ℕ) → p < 16 → Plane p x (block_at d (16 * p))) → (l : ℕ) → l < 16 → lane d l ≡ x l
 unfolding lane
-made_all {x} {d₀} {d} m h k l j =
-    tab_ext 16 (λ q. byte d (16 * q + l)) (λ q. byte (x l) q) (λ q i. m.done q (omega arith) l j) ∙ tab_eta 16 (x l) 0 (k l j)
+lanes_made x d k h l j =
+    tab_ext 16 (λ p. byte d (16 * p + l)) (λ p. byte (x l) p) (λ p i. sym (byte_block d (16 * p) l j) ∙ h p i l j) ∙ tab_eta 16 (x l) 0 (k l j)
 
 -- ---- a step by its planes
 
@@ -157,16 +190,14 @@ prepare_plane s x z p h bx bz px pz l k =
     ∙ five_and_four (byte x l) (byte z l) (byte y l) (byte w l) (bx.bytes.below l) (bz.bytes.below l)
     ∙ columns_plane 5 0 4 0 s x y z w p h px (plane_lane s (below p 1) (omega arith)) pz (plane_lane s (below p 3) (omega arith)) l k
 
--- AddRoundKey: a plane has one byte of the key, and stands as it came until its turn
-pub add_plane : {x : ℕ → List ℕ} {s₀ s : List ℕ} {p : ℕ} → Made x s₀ s p → p < 16 → (k : List ℕ) → length k ≡ 16
-    → Plane p (λ l. lane s₀ l ⊕ k) (block_at s (16 * p) ⊕ replicate 16 (byte k p))
+-- AddRoundKey: a plane has one byte of the key
+pub add_plane : (s : List ℕ) (p : ℕ) → length s ≡ 256 → p < 16 → (k : List ℕ) → length k ≡ 16
+    → Plane p (λ l. lane s l ⊕ k) (block_at s (16 * p) ⊕ replicate 16 (byte k p))
 unfolding lane
-add_plane {x} {s₀} {s} {p} m h k lk l j =
+add_plane s p n h k lk l j =
     byte_xor (block_at s (16 * p)) (replicate 16 (byte k p)) l (length-block_at s (16 * p) (omega arith)) refl
-    ∙ ap₂ (λ (m n : ℕ). bit_xor m n)
-    (byte_block s (16 * p) l j ∙ m.left (16 * p + l) (omega arith) ∙ sym (byte_lane s₀ l p h))
-    (get_or-replicate 16 l (byte k p) 0 j)
-    ∙ sym (byte_xor (lane s₀ l) k p refl lk)
+    ∙ ap₂ (λ (m n : ℕ). bit_xor m n) (plane_lane s p h l j) (get_or-replicate 16 l (byte k p) 0 j)
+    ∙ sym (byte_xor (lane s l) k p refl lk)
 
 -- the n blocks of s from `at` on, then blocks of zeros
 abbrev pub padded : List ℕ → ℕ → ℕ → ℕ → List ℕ

@@ -72,11 +72,7 @@ fn turned(s: [u8; 16]) -> [u8; 16]
 pub fn each_times_x(s: [u8; 16]) -> [u8; 16]
     ensures { result ≡ each_times_x s }
 {
-    let mut r = s;
-    for b in &mut r {
-        *b = times_x(*b);
-    }
-    r
+    std::array::from_fn(|i| times_x(s[i]))
 }
 
 // A byte times x, without a branch: 0x1b is what x^8 leaves.

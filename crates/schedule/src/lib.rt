@@ -63,7 +63,7 @@ fn next_word(w: &[u8], nk: usize, i: usize) -> [u8; 4]
 {
     let t = changed(nk, i, word_at(w, i - 1));
     let a = word_at(w, i - nk);
-    [a[0] ^ t[0], a[1] ^ t[1], a[2] ^ t[2], a[3] ^ t[3]]
+    std::array::from_fn(|j| a[j] ^ t[j])
 }
 
 // w[i - 1], changed where 5.2 says so.

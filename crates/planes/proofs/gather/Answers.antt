@@ -1,6 +1,6 @@
 -- `planes::gather` meets its contract: after l turns the first l lanes stand in their place.
 -- Assumes nothing.
-use mathlib.Core.Path.{◌≡◌, refl, ap, ap₂, ◌∙◌}
+use mathlib.Core.Path.{◌≡◌, ap, ap₂, ◌∙◌}
 use mathlib.Core.List.{List}
 use Prim.Native.Nat.{ℕ, ◌+◌, ◌*◌}
 use native.Mathlib.Omega.{arith}
@@ -11,26 +11,20 @@ use Rattle.planes.proofs.gather.Goals as goal
 pub loop-l-init : goal.loop-l-init
 loop-l-init c =
     let a = c.args in
-    (omega arith, refl, gather_none a.s.now a.d.now a.at)
+    gather_none a.s.now a.d.now a.at
 
 pub loop-l-preserved : goal.loop-l-preserved
 loop-l-preserved c =
     let y = c.strided in
     let a = c.args in
     let s : List ℕ = a.s.now in
-    let l = c.loop-l.l in (
-      omega arith,
-      c.put.auto.s ∙ c.loop-l.invariant.1,
-      c.put.ensures
-          ∙ ap₂ (λ (t b : List ℕ). with_block t (a.at + 16 * l) b) c.loop-l.invariant.2 (y.ensures ∙ strided_lane s l)
-          ∙ gather_turn s a.d.now a.at l (omega arith),
-    )
-
-pub shape_of-d : goal.shape_of-d
-shape_of-d c = c.loop-l.invariant.1
+    let l = c.loop-l.l in
+    c.put.ensures
+    ∙ ap₂ (λ (t b : List ℕ). with_block t (a.at + 16 * l) b) c.loop-l.invariant (y.ensures ∙ strided_lane s l)
+    ∙ gather_turn s a.d.now a.at l (omega arith)
 
 pub returns : goal.returns
 returns c =
     let a = c.args in
     let e : c.loop-l.l ≡ a.n = omega arith in
-    c.loop-l.invariant.2 ∙ ap (λ (l : ℕ). gathered a.s.now a.d.now a.at l) e
+    c.loop-l.invariant ∙ ap (λ (l : ℕ). gathered a.s.now a.d.now a.at l) e

@@ -1,13 +1,8 @@
 -- `planes::gather` meets its contract: after l turns the first l lanes stand in their place.
 -- Assumes nothing.
 use mathlib.Core.Path.{◌≡◌}
-use Prim.Native.Nat.{◌≤◌, ◌-◌}
-use lib.ListN.{length}
 use Rattle.planes.proofs.Laws.{gathered}
 use Rattle.planes.proofs.gather.Given as goal
 
 abbrev pub invariant-loop-l : goal.invariant-loop-l
-invariant-loop-l l = (l.l ≤ l.n) × (length l.d ≡ length l.initial.d) × (l.d ≡ gathered l.s l.initial.d l.at l.l)
-
-abbrev pub decreases-loop-l : goal.decreases-loop-l
-decreases-loop-l l = l.n - l.l
+invariant-loop-l l = l.d ≡ gathered l.s l.initial.d l.at l.l

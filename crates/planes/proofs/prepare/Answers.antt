@@ -1,21 +1,11 @@
--- `planes::prepare` meets its contract: after p turns the first p planes are those of the columns times (05, 00, 04, 00).
+-- `planes::prepare` meets its contract: each plane is that of the columns times (05, 00, 04, 00).
 -- Assumes nothing.
-use mathlib.Core.Path.{refl}
-use native.Mathlib.Omega.{arith}
-use Rattle.block.proofs.ArrayBytes.{array_block}
+use Rattle.std.proofs.Common.{refl}
 use Rattle.rounds.specs.Steps.{columns_times}
-use Rattle.planes.proofs.Laws.{made_none, made_more, made_all}
+use Rattle.planes.specs.Lanes.{lane}
+use Rattle.planes.proofs.Laws.{lanes_made}
 use Rattle.planes.proofs.prepare.Goals as goal
-
-pub loop-p-init : goal.loop-p-init
-loop-p-init c = (omega arith, made_none (omega arith))
-
-pub loop-p-preserved : goal.loop-p-preserved
-loop-p-preserved c =
-    let y = c.prepared in
-    let n = (array_block y.result _ y.type_inv).size in
-    (omega arith, made_more c.loop-p.invariant.1 (omega arith) y.result n c.put.ensures y.ensures)
 
 pub returns : goal.returns
 unfolding columns_times
-returns c = made_all c.loop-p.invariant.1 (omega arith) (λ l h. refl)
+returns c = lanes_made (λ n. columns_times 5 0 4 0 (lane c.args.s.now n)) c.each_plane.new.d (λ l h. refl) (λ p h. (c.each_plane.ensures p h).1)

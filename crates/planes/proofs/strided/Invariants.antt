@@ -3,14 +3,11 @@
 use mathlib.Core.Path.{◌≡◌}
 use mathlib.Core.Bool.{cond}
 use mathlib.Core.List.{◌++◌}
-use Prim.Native.Nat.{◌+◌, ◌*◌, ◌≤◌, ◌-◌}
+use Prim.Native.Nat.{◌+◌, ◌*◌}
 use lib.Dec.{ltb}
 use lib.ListN.{take, drop, replicate}
 use Rattle.block.specs.Tab.{tab, byte}
 use Rattle.planes.proofs.strided.Given as goal
 
 abbrev pub invariant-loop-i : goal.invariant-loop-i
-invariant-loop-i l = (l.i ≤ l.n) × (l.r ≡ take l.i (tab 16 (λ j. cond (ltb j l.n) (byte l.s (l.at + 16 * j)) 0)) ++ drop l.i (replicate 16 0))
-
-abbrev pub decreases-loop-i : goal.decreases-loop-i
-decreases-loop-i l = l.n - l.i
+invariant-loop-i l = l.r ≡ take l.i (tab 16 (λ j. cond (ltb j l.n) (byte l.s (l.at + 16 * j)) 0)) ++ drop l.i (replicate 16 0)

@@ -1,29 +1,17 @@
--- `rounds::each_times_x` meets its contract: after i turns the first i bytes are multiplied.
+-- `rounds::each_times_x` meets its contract, place by place.
 -- Assumes nothing.
-use Rattle.std.proofs.Common.{ℕ, List, ap, sym, ◌∙◌, arith, refl, slice_set}
+use Rattle.std.proofs.Common.{◌≡◌, ℕ, ◌<◌, sym, ◌∙◌, arith, rules}
+use Rattle.std.proofs.lemmas.List.{ext_get_or}
 use Rattle.block.specs.Tab.{byte}
-use Rattle.block.proofs.ArrayBytes.{array_block}
 use Rattle.block.proofs.TabLaws.{get_or-tab}
-use Rattle.block.proofs.BlockLaws.{fill_turn, fill_next, fill_done}
 use Rattle.sbox.specs.Field.{xtime}
 use Rattle.rounds.specs.Steps.{each_times_x}
 use Rattle.rounds.proofs.each_times_x.Goals as goal
 
-pub loop-b-preserved : goal.loop-b-preserved
-loop-b-preserved c =
-    let i = c.loop-b.b-index in
-    let s = c.args.s in
-    let x = c.times_x.result in
-    let n = (array_block s _ c.well_formed.0).size in
-    ap (λ (r : List ℕ). slice_set r i x) c.loop-b.invariant
-    ∙ fill_turn (each_times_x s) s i x (omega arith) (omega arith)
-    (c.times_x.ensures
-    ∙ ap xtime
-    (ap (λ (r : List ℕ). byte r i) c.loop-b.invariant ∙ fill_next (each_times_x s) s i (omega arith) (omega arith))
-    ∙ sym (get_or-tab 16 (λ j. xtime (byte s j)) i 0 (omega arith)))
-
 pub returns : goal.returns
 returns c =
     let s = c.args.s in
-    let n = (array_block s _ c.well_formed.0).size in
-    c.loop-b.invariant ∙ fill_done (each_times_x s) s 16 c.loop-b.b-index refl n (omega arith) (omega arith)
+    let r = c.from_fn.result in
+    let at : (i : ℕ) → i < 16 → byte r i ≡ xtime (byte s i) = λ i h. search rules in
+    ext_get_or 0 r (each_times_x s) c.from_fn.ensures.items.long
+    (λ i h. at i (omega (arith, c.from_fn.ensures.items.long)) ∙ sym (get_or-tab 16 (λ j. xtime (byte s j)) i 0 (omega (arith, c.from_fn.ensures.items.long))))

@@ -1,4 +1,4 @@
--- `planes::mixed` meets its contract: 02 is x, 03 is x and 1, and the four planes are those of p's column.
+-- The closure of `planes::mix`: 02 is x, 03 is x and 1, and the four planes are those of p's column.
 -- Assumes nothing.
 use mathlib.Core.Path.{ap, ap₂, ◌∙◌}
 use mathlib.Core.List.{List}
@@ -8,7 +8,7 @@ use Rattle.block.specs.Tab.{byte}
 use Rattle.block.specs.Xor.{◌⊕◌}
 use Rattle.block.proofs.ArrayBytes.{array_block}
 use Rattle.planes.proofs.Laws.{mix_plane}
-use Rattle.planes.proofs.mixed.Goals as goal
+use Rattle.planes.proofs.fn.mix.each_plane.Goals as goal
 
 pub returns : goal.returns
 returns c =
@@ -16,7 +16,8 @@ returns c =
     let y = c.row-y in
     let z = c.row in
     let w = c.row-2 in
-    let a = c.args in
+    let s = c.captures.s.now in
+    let p = c.args.p in
     λ l h.
     ap (λ (r : List ℕ). byte r l)
     (c.xor-3.ensures
@@ -24,7 +25,7 @@ returns c =
     (c.xor-2.ensures
     ∙ ap₂ (λ (u v : List ℕ). u ⊕ v) (c.xor-z.ensures ∙ ap (λ (u : List ℕ). u ⊕ y.result) c.each_times_x.ensures)
     c.xor.ensures))
-    ∙ mix_plane a.s.now x.result y.result z.result w.result a.p (omega arith)
+    ∙ mix_plane s x.result y.result z.result w.result p (omega arith)
     (array_block y.result _ y.type_inv).size
     (array_block z.result _ z.type_inv).size
     (array_block w.result _ w.type_inv).size
