@@ -1,15 +1,13 @@
 -- The planes of a group, one put and the others kept.
 -- Assumes nothing.
 use mathlib.Core.Path.{◌≡◌, refl, sym, ap, subst, ◌∙◌}
-use mathlib.Core.Bool.{Bool, true, false}
 use mathlib.Core.List.{List, [], ◌∷◌}
 use Prim.Native.Nat.{ℕ, zero, suc, ◌+◌, ◌*◌, ◌≤◌, ◌<◌}
 use native.Mathlib.Nat.{add-zero, le_of_suc-le-suc, not-suc-le-zero}
 use native.Mathlib.Omega.{arith}
 use lib.ListN.{length, get_or, set, length-set}
 use lib.Seq.{get_or-set_same, get_or-set_other}
-use borrow.Author.Tests.{ltb-true, ltb-false}
-use lib.Dec.{ltb}
+use borrow.Author.Count.{below_more}
 use Rattle.bits.specs.declared.BitPlanes.{BitPlanes}
 use Rattle.bits.specs.Planes.{words, planes, planes_of, puts, with_planes}
 
@@ -100,24 +98,15 @@ module _ (g : List ℕ) (t : ℕ) (q : BitPlanes) (h : t < 4) (l : length g ≡ 
   pub planes_kept : (u : ℕ) → u < 4 → (u ≡ t → ⊥) → planes (with_planes g t (words q)) u ≡ planes g u
   planes_kept u k n = ap of_words (words_kept u k n)
 
--- a number below t + 1 is below t, or t
-pub below_next : (P : Type 0) (u t : ℕ) → u < t + 1 → (u < t → P) → (u ≡ t → P) → P
-below_next P u t h f g = by (ltb u t) refl
-  where
-    by : (b : Bool) → ltb u t ≡ b → P
-    by true e = f (ltb-true u t e)
-    by false e = g (omega (arith, ltb-false u t e))
-
 -- one more turn of a loop that puts planes
 module _ (g g' : List ℕ) (t : ℕ) (q : BitPlanes) (h : t < 4) (l : length g ≡ 32) (e : g' ≡ with_planes g t (words q)) where
   -- what holds of those that are done
   pub done_more : (P : ℕ → BitPlanes → Type 0) → ((u : ℕ) → u < t → P u (planes g u)) → P t q → (u : ℕ) → u < t + 1 → P u (planes g' u)
-  done_more P d p u k =
-      subst (λ (z : List ℕ). P u (planes z u)) (sym e)
-      (below_next (P u (planes (with_planes g t (words q)) u)) u t k
-      (λ m. subst (λ (z : BitPlanes). P u z) (sym (planes_kept g t q h l u (omega arith) (λ n. omega arith))) (d u m))
-      (λ n.
-      subst (λ (v : ℕ). P v (planes (with_planes g t (words q)) v)) (sym n) (subst (λ (z : BitPlanes). P t z) (sym (planes_put g t q h l)) p)))
+  done_more P d p =
+      subst (λ (z : List ℕ). (u : ℕ) → u < t + 1 → P u (planes z u)) (sym e)
+      (below_more (λ u. P u (planes (with_planes g t (words q)) u)) t
+      (λ u m. subst (λ (z : BitPlanes). P u z) (sym (planes_kept g t q h l u (omega arith) (λ n. omega arith))) (d u m))
+      (subst (λ (z : BitPlanes). P t z) (sym (planes_put g t q h l)) p))
 
   -- and those that are left
   pub left_more : (g₀ : List ℕ) → ((u : ℕ) → t ≤ u → u < 4 → planes g u ≡ planes g₀ u)

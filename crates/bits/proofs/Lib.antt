@@ -4,4 +4,3 @@ pub mod WireLaws
 pub mod PlaneLaws
 pub mod GroupLaws
 pub mod TurnLaws
-pub mod MadeLaws

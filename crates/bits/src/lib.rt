@@ -13,7 +13,7 @@ mod turn;
 
 pub use turn::{gather, gather_block, merged, shifted, spread, spread_block};
 
-// Bit i of 32 bytes in word i.
+// Bit i of 32 bytes in word i. Fields and no array: the gates of the layers above are straight-line programs that read words by name.
 #[derive(Clone, Copy)]
 pub struct BitPlanes {
     pub p0: u32,
@@ -59,7 +59,7 @@ pub fn put_planes(group: &mut [u32; 32], t: usize, q: BitPlanes)
     group[t + 28] = q.p7;
 }
 
-// Puts f of them in the place of each planes of the group.
+// Puts f of them in the place of each planes of the group. By place: a planes lies four words apart, so no iterator over the group gives it.
 pub fn over_planes<F: Fn(BitPlanes) -> BitPlanes>(group: &mut [u32; 32], f: F)
     requires { F.IsAlwaysCallable f }
     ensures { OverPlanes (F.post f) group.old group.new }

@@ -87,7 +87,7 @@ fn flipped(q: BitPlanes) -> BitPlanes
     flip_fours(flip_twos(flip_ones(q)))
 }
 
-// One word of bytes as planes: of each, bit 0 of every byte counts.
+// One word of bytes as planes: of each, bit 0 of every byte counts. A line for each field, here and in `merged`: a loop needs an array and a copy.
 pub fn shifted(w: u32) -> BitPlanes
     ensures { Placed w (words result) }
 {

@@ -6,7 +6,7 @@ ghost use Rattle.sbox.specs.AffineGates.{affine_gates, affine_outs, unaffine_gat
 
 use bits::BitPlanes;
 
-// The affine step: 19 gates. The four that turn a bit over are the constant 63 hex.
+// The affine step: 19 gates. The four that turn a bit over are the constant 63 hex: xor with ones and no `!`, as the data has them.
 pub fn affine(q: BitPlanes) -> BitPlanes
     ensures { words result ≡ stage affine_gates affine_outs (ones ∷ words q) }
 {

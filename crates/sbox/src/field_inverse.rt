@@ -2,8 +2,8 @@
 // all 115 gates with two callers is not inlined. `top` to `products` follow the straight-line program that Joan Boyar and Rene Peralta
 // published for the substitution; `bottom`, which leaves the affine step out, was searched for anew.
 //
-// The names are those of that program. A part promises that it is the gates that `specs/Gates.antt` has for it; `specs/Inverse.antt` shows
-// that the five together are the inverse.
+// The names are those of that program. A part promises that it is the gates that `specs/InverseGates.antt` has for it; `proofs/GateRuleLaws`
+// shows that the five together are the inverse.
 ghost use Rattle.std.specs.Prelude.{◌≡◌, ◌++◌};
 ghost use Rattle.bits.specs.Planes.{words};
 ghost use Rattle.sbox.specs.Gates.{stage};

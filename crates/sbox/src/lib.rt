@@ -36,7 +36,7 @@ pub fn inv_sub_bytes(s: [u8; 16]) -> [u8; 16]
     block_substituted(true, s)
 }
 
-// SubWord, of key setup.
+// SubWord, of key setup. It composes the parts of `planewise::substituted` again: with a second caller that one would not be inlined.
 pub fn sub_word(w: [u8; 4]) -> [u8; 4]
     ensures { result ≡ sub_word w }
 {
