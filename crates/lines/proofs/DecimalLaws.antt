@@ -11,6 +11,8 @@ use native.Mathlib.Omega.{arith}
 use borrow.Author.Tests.{ltb-true, ltb-false, lt-ltb, le-ltb}
 use lib.Dec.{ltb}
 use lib.ListN.{length, get_or, length-append}
+use Rattle.std.specs.Fmt.{decimal as written}
+use Rattle.std.proofs.lemmas.Fmt.{decimal_by_steps}
 use Rattle.lines.specs.Decimal.{digit, digits, decimal, read_from}
 
 below_ten : (n : ℕ) → (n < 10) ⊎ (10 ≤ n)
@@ -53,6 +55,12 @@ decimal_large zero h = absurd (omega arith)
 decimal_large (suc f) h =
     digits_large f (suc f) h
     ∙ ap (λ (x : List ℕ). x ++ (digit (suc f % 10) ∷ [])) (enough f (suc f / 10) (suc f / 10) (omega arith) (omega arith))
+
+-- what the library writes of a number that fits into 64 bits
+pub decimal_written : (n : ℕ) → n < 2 ^ 64 → decimal n ≡ written n
+decimal_written n h =
+    decimal_by_steps (λ m ds. decimal m ≡ ds) decimal_small
+    (λ m ds l e. decimal_large m l ∙ ap (λ (x : List ℕ). x ++ (digit (m % 10) ∷ [])) e) n h
 
 -- ---- read back
 

@@ -5,17 +5,14 @@ ghost use Rattle.lines.specs.Laid.{room, Laid};
 ghost use Rattle.lines.specs.Listing.{field, named};
 
 use super::laying::{put, text};
+use itoa::Buffer;
 
 // The digits of n, of which there are at most 20.
 pub fn number(out: &mut [u8], at: usize, n: usize) -> usize
     requires { at + 20 ≤ room }
     ensures { Laid (decimal n) at out.old result out.new }
 {
-    if n < 10 {
-        return put(out, at, b'0' + n as u8);
-    }
-    let last = number(out, at, n / 10);
-    put(out, last, b'0' + (n % 10) as u8)
+    text(out, at, Buffer::new().format(n).as_bytes())
 }
 
 // A number and the byte after it.
