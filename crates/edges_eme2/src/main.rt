@@ -8,7 +8,6 @@
 // The lines to expect are the second implementation's (host/rust/second/examples/edges_eme2.rs).
 #![tactic(auto)]
 
-ghost use Rattle.std.specs.Prelude.{◌≡◌, ◌≤◌, ◌<◌, length};
 ghost use Rattle.lagunedo.specs.Calls.{Eme2Called};
 
 use patterns::{digest, fill, is_pattern};
@@ -27,61 +26,75 @@ fn main(rt: HostRuntime) -> io::Result<()> {
     let mut message = [0u8; 65537];
     fill(&mut key, 7, 1);
     fill(&mut ad, 11, 5);
-    every_length(&rt, &key, &ad, &mut message)
+    every_key(&rt, &key, &ad, &mut message)
 }
 
 // Every length of the key with every length of the associated data and of the message, 7 by 7 by 11, each at the front of the longest one.
-fn every_length(rt: &impl Print, key: &[u8], ad: &[u8], message: &mut [u8]) -> io::Result<()>
-    requires { (length key.now ≡ 65) × (length ad.now ≡ 1025) × (length message.old ≡ 65537) }
-{
-    let mut i = 0;
-    while i < 539 {
-        let k = key_length(i / 11 / 7);
-        let a = data_length(i / 11 % 7);
-        let m = message_length(i % 11);
-        both_ways(rt, &key[0..k], &ad[0..a], &mut message[0..m])?;
-        i += 1;
+fn every_key(
+    rt: &impl Print,
+    key: &[u8; 65],
+    ad: &[u8; 1025],
+    message: &mut [u8; 65537],
+) -> io::Result<()> {
+    for n in KEYS {
+        every_data(rt, &key[..n], ad, message)?;
     }
     Ok(())
 }
 
-fn both_ways(rt: &impl Print, key: &[u8], ad: &[u8], message: &mut [u8]) -> io::Result<()> {
-    line(rt, false, key, ad, message)?;
-    line(rt, true, key, ad, message)
+fn every_data(
+    rt: &impl Print,
+    key: &[u8],
+    ad: &[u8; 1025],
+    message: &mut [u8; 65537],
+) -> io::Result<()> {
+    for n in DATA {
+        every_message(rt, key, &ad[..n], message)?;
+    }
+    Ok(())
+}
+
+fn every_message(
+    rt: &impl Print,
+    key: &[u8],
+    ad: &[u8],
+    message: &mut [u8; 65537],
+) -> io::Result<()> {
+    for n in MESSAGES {
+        line(rt, false, key, ad, &mut message[..n])?;
+        line(rt, true, key, ad, &mut message[..n])?;
+    }
+    Ok(())
 }
 
 // Makes one call on a fresh message, and prints its line.
 fn line(rt: &impl Print, back: bool, key: &[u8], ad: &[u8], message: &mut [u8]) -> io::Result<()> {
-    print_lengths(rt, key.len(), ad.len(), message.len())?;
-    print_direction(rt, back)?;
     fill(message, 3, 0);
     let r = call(back, key, ad, message);
-    print_number(rt, r as usize)?;
+    let direction = if back { "decipher" } else { "encipher" };
+    print!(rt;
+        "key {} data {} message {} {direction} {r}",
+        key.len(),
+        ad.len(),
+        message.len()
+    )?;
     if r == 0 {
-        return done(rt, back, key, ad, message);
+        done(rt, back, key, ad, message)
+    } else if is_pattern(message, 3, 0) {
+        println!(rt; " kept")
+    } else {
+        println!(rt; " CHANGED")
     }
-    refused(rt, message)
 }
 
 // The rest of the line of a call that was made: the digest, and whether the other direction undoes it.
 fn done(rt: &impl Print, back: bool, key: &[u8], ad: &[u8], message: &mut [u8]) -> io::Result<()> {
-    print(rt, b" ")?;
-    let d = digest(message);
-    print!(rt; "{d:08x}")?;
-    if call(!back, key, ad, message) == 0 {
-        if is_pattern(message, 3, 0) {
-            return print(rt, b" undone\n");
-        }
+    print!(rt; " {:08x}", digest(message))?;
+    if call(!back, key, ad, message) == 0 && is_pattern(message, 3, 0) {
+        println!(rt; " undone")
+    } else {
+        println!(rt; " NOT UNDONE")
     }
-    print(rt, b" NOT UNDONE\n")
-}
-
-// The rest of the line of a call that was refused.
-fn refused(rt: &impl Print, message: &[u8]) -> io::Result<()> {
-    if is_pattern(message, 3, 0) {
-        return print(rt, b" kept\n");
-    }
-    print(rt, b" CHANGED\n")
 }
 
 // The call for C in a direction.
@@ -89,52 +102,8 @@ fn call(back: bool, key: &[u8], ad: &[u8], message: &mut [u8]) -> u32
     ensures { Eme2Called back key.now ad.now message.old result message.new }
 {
     if back {
-        return lagunedo::lagunedo_eme2_decipher(key, ad, message);
+        lagunedo::lagunedo_eme2_decipher(key, ad, message)
+    } else {
+        lagunedo::lagunedo_eme2_encipher(key, ad, message)
     }
-    lagunedo::lagunedo_eme2_encipher(key, ad, message)
-}
-
-fn key_length(i: usize) -> usize
-    requires { i < 7 }
-    ensures { result ≤ 65 }
-{
-    KEYS[i]
-}
-
-fn data_length(i: usize) -> usize
-    requires { i < 7 }
-    ensures { result ≤ 1025 }
-{
-    DATA[i]
-}
-
-fn message_length(i: usize) -> usize
-    requires { i < 11 }
-    ensures { result ≤ 65537 }
-{
-    MESSAGES[i]
-}
-
-fn print_lengths(rt: &impl Print, key: usize, ad: usize, message: usize) -> io::Result<()> {
-    print(rt, b"key ")?;
-    print_number(rt, key)?;
-    print(rt, b" data ")?;
-    print_number(rt, ad)?;
-    print(rt, b" message ")?;
-    print_number(rt, message)
-}
-
-fn print_direction(rt: &impl Print, back: bool) -> io::Result<()> {
-    if back {
-        return print(rt, b" decipher ");
-    }
-    print(rt, b" encipher ")
-}
-
-fn print_number(rt: &impl Print, n: usize) -> io::Result<()> {
-    print!(rt; "{n}")
-}
-
-fn print(rt: &impl Print, text: &[u8]) -> io::Result<()> {
-    rt.write_all(text)
 }

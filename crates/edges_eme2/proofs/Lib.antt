@@ -1,2 +1,0 @@
--- What the proofs of the functions share.
-pub mod Laws
