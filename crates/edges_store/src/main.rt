@@ -18,115 +18,102 @@
 // The lines to expect are the second implementation's (host/rust/second/examples/edges_store.rs).
 #![tactic(auto)]
 
-ghost use Rattle.std.specs.Prelude.{◌≡◌, length};
-
 use patterns::fill;
+use printed_calls::Bench;
 use reading::read_full;
-use script::{Line, at_most, by_hand, chosen, echoed, past_line, print, word};
+use records::RECORD_SIZE;
+use script::{Call, Line, seal, write};
 use std::io;
+
+// The longest key, one byte more than a call takes.
+const KEY: usize = 65;
+// The longest store: 1,025 slots, one more than a store may have.
+const STORE: usize = 1025 * RECORD_SIZE;
+
+// What a script works on. Its lines see the keys `old` and `new` and the first `bytes` of the store, which may grow again.
+#[derive(Drop)]
+struct Desk<'a> {
+    longest_old: &'a [u8; KEY],
+    longest_new: &'a [u8; KEY],
+    old: &'a [u8],
+    new: &'a [u8],
+    store: &'a mut [u8; STORE],
+    before: &'a mut [u8; STORE],
+    bytes: usize,
+}
 
 fn main(rt: HostRuntime) -> io::Result<()> {
     let mut script = [0u8; 65536];
     let n = read_full(&mut rt.stdin(), &mut script);
-    let mut old = [0u8; 65];
-    let mut new = [0u8; 65];
-    let mut store = slots();
-    let mut before = slots();
+    let mut old = [0u8; KEY];
+    let mut new = [0u8; KEY];
+    let mut store = [0u8; STORE];
+    let mut before = [0u8; STORE];
     fill(&mut old, 3, 1);
     fill(&mut new, 3, 100);
-    lines(&rt, &script[..n], &old, &new, &mut store, &mut before)
+    let mut desk = Desk {
+        longest_old: &old,
+        longest_new: &new,
+        old: &[],
+        new: &[],
+        store: &mut store,
+        before: &mut before,
+        bytes: 0,
+    };
+    lines(&rt, &script[..n], &mut desk)
 }
 
-// 1,025 slots, one more than a store may have. The `ensures` gives only the length, which lending them needs.
-fn slots() -> [u8; 2164800]
-    ensures { 2164800 ≡ length result }
-{
-    [0; 2164800]
-}
-
-fn lines(
-    rt: &impl Print,
-    script: &[u8],
-    old: &[u8],
-    new: &[u8],
-    store: &mut [u8],
-    before: &mut [u8],
-) -> io::Result<()>
-    requires { (length old.now ≡ 65) × (length new.now ≡ 65) × (length store.old ≡ 2164800) × (length before.old ≡ 2164800) }
-{
-    let mut at = 0;
-    let mut o = 0;
-    let mut n = 0;
-    let mut bytes = 0;
-    while at < script.len() {
-        let past = past_line(script, at);
-        let l = echoed(rt, &script[at..past - 1])?;
-        o = chosen(l.kind, b's', l.a, o);
-        n = chosen(l.kind, b's', l.b, n);
-        bytes = chosen(l.kind, b'r', l.a, bytes);
-        run(rt, l, o, n, bytes, old, new, store, before)?;
-        at = past;
+// Runs each line without its newline. Where the script ends without one, the last line loses its last byte.
+fn lines(rt: &impl Print, script: &[u8], desk: &mut Desk) -> io::Result<()> {
+    for line in script.split_inclusive(|c| *c == b'\n') {
+        if let Some((_, line)) = line.split_last() {
+            rt.write_all(line)?;
+            desk.run(rt, Line::from(line))?;
+            print!(rt; "\n")?;
+        }
     }
     Ok(())
 }
 
-// Runs a line on the keys and the store, of the lengths asked for, and takes a copy of the store first.
-fn run(
-    rt: &impl Print,
-    l: Line,
-    o: usize,
-    n: usize,
-    bytes: usize,
-    old: &[u8],
-    new: &[u8],
-    store: &mut [u8],
-    before: &mut [u8],
-) -> io::Result<()>
-    requires { (length old.now ≡ 65) × (length new.now ≡ 65) × (length store.old ≡ 2164800) × (length before.old ≡ 2164800) }
-{
-    let k = at_most(o, 65);
-    let m = at_most(n, 65);
-    let s = at_most(bytes, 2164800);
-    block::copy(&mut before[0..s], 0, &store[0..s]);
-    on_store(
-        rt,
-        l,
-        &old[0..k],
-        &new[0..m],
-        &mut store[0..s],
-        &before[0..s],
-    )?;
-    print(rt, b"\n")
-}
+impl Desk<'_> {
+    fn run(&mut self, rt: &impl Print, line: Line) -> io::Result<()> {
+        match line {
+            Line::Keys { old, new } => {
+                self.old = &self.longest_old[..old.min(KEY)];
+                self.new = &self.longest_new[..new.min(KEY)];
+            }
+            Line::Store { bytes } => self.bytes = bytes,
+            Line::Write { at, length, from } => write(self.front(), at, length, from),
+            Line::Seal { at, length } => {
+                let old = self.old;
+                seal(old, self.front(), at, length)
+            }
+            Line::Call(call) => return self.make(rt, call),
+            Line::Note => {}
+        }
+        Ok(())
+    }
 
-fn on_store(
-    rt: &impl Print,
-    l: Line,
-    old: &[u8],
-    new: &[u8],
-    store: &mut [u8],
-    before: &[u8],
-) -> io::Result<()>
-    requires { length before.now ≡ length store.old }
-{
-    if l.kind == b'c' {
-        return printed_calls::check(rt, store, before);
+    // The store, as long as was asked for, and 1,025 slots at most.
+    fn front(&mut self) -> &mut [u8] {
+        let n = self.bytes.min(STORE);
+        let store = &mut *self.store;
+        &mut store[..n]
     }
-    if l.kind == b'd' {
-        return printed_calls::read(rt, old, new, store, before, word(l.a), l.b);
+
+    // Makes a call, and takes a copy of the store first.
+    fn make(&mut self, rt: &impl Print, call: Call) -> io::Result<()> {
+        let n = self.bytes.min(STORE);
+        let store = &mut *self.store;
+        let before = &mut *self.before;
+        before[..n].copy_from_slice(&store[..n]);
+        let mut bench = Bench {
+            rt,
+            old: self.old,
+            new: self.new,
+            store: &mut store[..n],
+            before: &before[..n],
+        };
+        bench.make(call)
     }
-    if l.kind == b' ' {
-        return printed_calls::add(rt, old, new, store, before, word(l.a), l.b, l.c);
-    }
-    if l.kind == b'i' {
-        return printed_calls::revise(rt, old, new, store, before, word(l.a), word(l.b), l.c, l.d);
-    }
-    if l.kind == b'o' {
-        return printed_calls::remove(rt, store, before, word(l.a));
-    }
-    if l.kind == b'p' {
-        return printed_calls::step(rt, old, new, store, before, l.a);
-    }
-    by_hand(l.kind, l.a, l.b, l.c, old, store);
-    Ok(())
 }

@@ -1,29 +1,23 @@
-// What a line does to the store that is no call of it.
+// What a line does to the store that is no call of it. What does not lie within the store is left out.
 use patterns::fill;
 
-// A pattern written into the store, or a text put under the old key.
-pub fn by_hand(kind: u8, at: usize, n: usize, from: usize, old: &[u8], store: &mut [u8]) {
-    if at > store.len() {
-        return;
-    }
-    if n > store.len() - at {
-        return;
-    }
-    if kind == b't' {
-        fill(&mut store[at..at + n], 3, from);
-        return;
-    }
-    if kind == b'l' {
-        seal(old, &mut store[at..at + n]);
+// A pattern into the store.
+pub fn write(store: &mut [u8], at: usize, length: usize, from: usize) {
+    if let Some(part) = part(store, at, length) {
+        fill(part, 3, from);
     }
 }
 
-// The text behind a lead enciphered with the lead.
-fn seal(key: &[u8], s: &mut [u8]) {
-    if s.len() < 16 {
-        return;
+// A lead and a text, of a length together: the text enciphered under the old key with the lead.
+pub fn seal(old: &[u8], store: &mut [u8], at: usize, length: usize) {
+    if let Some(part) = part(store, at, length)
+        && let Some((lead, text)) = part.split_at_mut_checked(16)
+    {
+        lagunedo::lagunedo_eme2_encipher(old, lead, text);
     }
-    let lead = block::load(s, 0);
-    let n = s.len();
-    lagunedo::lagunedo_eme2_encipher(key, &lead, &mut s[16..n]);
+}
+
+// The bytes of the store at a place, of a length.
+fn part(store: &mut [u8], at: usize, length: usize) -> Option<&mut [u8]> {
+    store.get_mut(at..)?.get_mut(..length)
 }
