@@ -11,7 +11,7 @@ use borrow.Author.Tests.{eqb-true}
 use lib.Bits.{bit_xor, xor_zero_r}
 use lib.Dec.{ltb, ltb→lt, eqb}
 use lib.ListN.{length, get_or, take, drop, replicate, length-append, length-drop, length-replicate}
-use lib.Seq.{length-take-le, get_or-take, get_or-drop, take-append-le, drop-append-le, drop-append-add, take_at, drop_at, drop-drop}
+use lib.Seq.{length-take-le, take-append-le, drop-append-le, drop-append-add, take_at, drop_at, drop-drop}
 use Rattle.std.specs.Simd.{first_chunks}
 use Rattle.block.specs.Tab.{tab, byte}
 use Rattle.block.specs.Bytes.{Bytes, Block}
@@ -20,7 +20,7 @@ use Rattle.block.specs.Xor.{◌⊕◌}
 use Rattle.block.proofs.BoolLaws.{either}
 use Rattle.block.proofs.BytesLaws.{drop_replicate, bytes_cons, bytes_zeros, bytes_append, bytes_take, bytes_drop}
 use Rattle.block.proofs.Table.{each}
-use Rattle.block.proofs.TabLaws.{get_or-tab, tab_ext, tab_eta, bytes-tab}
+use Rattle.block.proofs.TabLaws.{get_or-tab, tab_ext, bytes-tab}
 use Rattle.block.proofs.XorLaws.{length_⊕, ⊕_tab, bytes_⊕}
 use Rattle.block.proofs.BlockLaws.{length-block_at}
 use Rattle.sbox.specs.Sub.{sub_word}
@@ -34,12 +34,6 @@ pub key_sizes : (n : ℕ) → key_size n ≡ true → (4 ≤ n / 4) × (n / 4 �
 key_sizes n = either (eqb n 16) (eqb n 32) (λ e. omega (arith, eqb-true n 16 e)) (λ e. omega (arith, eqb-true n 32 e))
 
 -- ---- words
-
--- n bytes of w from `at` on, place by place
-pub window : (n : ℕ) (w : List ℕ) (at : ℕ) → at + n ≤ length w → take n (drop at w) ≡ tab n (λ i. byte w (at + i))
-window n w at h =
-    sym (tab_eta n (take n (drop at w)) 0 (length-take-le n (drop at w) (omega (arith, length-drop at w))))
-    ∙ tab_ext n (λ i. byte (take n (drop at w)) i) (λ i. byte w (at + i)) (λ i l. get_or-take n (drop at w) i 0 l ∙ get_or-drop at w i 0)
 
 length-word : (w : List ℕ) (i : ℕ) → 4 * i + 4 ≤ length w → length (word w i) ≡ 4
 length-word w i h = length-take-le 4 (drop (4 * i) w) (omega (arith, length-drop (4 * i) w))
