@@ -16,12 +16,12 @@ use Rattle.block.specs.Tab.{tab}
 use Rattle.block.proofs.BoolLaws.{clash}
 use Rattle.numbers.specs.declared.Refusal.{Refusal}
 use Rattle.numbers.specs.declared.Refusal.TheVariants.{StoreLength}
-use Rattle.records.specs.Record.{num, mark, sound}
+use Rattle.records.specs.Record.{num, sound}
 use Rattle.slots.specs.Slots.{slots, slot, lowest, find, bad_size}
 use Rattle.slots.proofs.FindLaws.{tally_le, tally_not, lowest_has, lowest_is, place_some, place_none, some_place, none_place, count_tab}
 use Rattle.checking.specs.declared.Checked.{Checked}
 use Rattle.checking.specs.declared.Checked.TheVariants as checked
-use Rattle.checking.specs.Check.{faulty, first_fault, fault, used, marked, counted, counts, check_answer}
+use Rattle.checking.specs.Check.{faulty, first_fault, fault, used, counted, counts, check_answer}
 
 -- ---- the tests on a slot
 
@@ -44,12 +44,6 @@ module _ (r : List ℕ) where
 
   pub used_so : (num r ≡ 0 → ⊥) → used r ≡ true
   used_so h = ap not (ne_eqb (num r) 0 h)
-
-  pub marked_free : (m : ℕ) → num r ≡ 0 → marked m r ≡ false
-  marked_free m h = ap (λ (t : Bool). t && eqb (mark r) m) (used_not h)
-
-  pub marked_used : (m : ℕ) → (num r ≡ 0 → ⊥) → marked m r ≡ eqb (mark r) m
-  marked_used m h = ap (λ (t : Bool). t && eqb (mark r) m) (used_so h)
 
 -- whether the place found is below k, where there are more than k places
 pub lower_than : (m n k : ℕ) (o : Option ℕ) (b : Bool) (P : ℕ → Type 0) → o ≡ cond (ltb m n) (Some m) None → k < n

@@ -4,12 +4,11 @@ use mathlib.Core.Path.{◌≡◌, refl, sym, ap, ap₂, ◌∙◌}
 use mathlib.Core.Logic.{⊎_elim}
 use mathlib.Core.Bool.{Bool, true, false, cond, not}
 use mathlib.Core.List.{List, []}
-use Prim.Native.Nat.{ℕ, zero, suc, ◌+◌, ◌-◌, ◌≤◌, ◌<◌}
+use Prim.Native.Nat.{ℕ, zero, suc, ◌+◌, ◌≤◌, ◌<◌}
 use Rattle.std.proofs.Common.{Some, None, ltb-true, ltb-false, lt-ltb, le-ltb}
 use Rattle.std.specs.List.{position_or_len, position, count_by}
 use Rattle.std.proofs.lemmas.List.Sums.{position_or_len_is, sum_by-cons}
 use native.Mathlib.Nat.{eq-or-lt_of_le}
-use native.Mathlib.Numerals.{add-one}
 use native.Mathlib.Omega.{arith}
 use borrow.Author.Tests.{eqb-true, eqb-false, eq-eqb, ne_eqb}
 use lib.Dec.{eqb, ltb}
@@ -52,32 +51,6 @@ module _ (p : ℕ → Bool) where
   scan_below i zero j l h = let z : ⊥ = omega arith in absurd z
   scan_below i (suc n) j l h =
       of_below p (p i) i (scan p (suc i) n) j refl l (λ (k : i < j) (m : j < scan p (suc i) n). scan_below (suc i) n j k m) h
-
-  -- a loop that looks: what is left from k on, of c in all
-  pub scan_start : (c : ℕ) → scan p 0 (c - 0) ≡ lowest p c
-  scan_start c =
-      let e : c - 0 ≡ c = omega arith in
-      ap (scan p 0) e
-
-  pub scan_step : (k c : ℕ) → k < c → p k ≡ false → scan p k (c - k) ≡ scan p (k + 1) (c - (k + 1))
-  unfolding scan
-  scan_step k c h e =
-      let n : c - k ≡ suc (c - (k + 1)) = omega arith in
-      ap (scan p k) n
-      ∙ ap (λ (t : Bool). cond t k (scan p (suc k) (c - (k + 1)))) e
-      ∙ ap (λ (j : ℕ). scan p j (c - (k + 1))) (sym (add-one k))
-
-  pub scan_found : (k c : ℕ) → k < c → p k ≡ true → scan p k (c - k) ≡ k
-  unfolding scan
-  scan_found k c h e =
-      let n : c - k ≡ suc (c - (k + 1)) = omega arith in
-      ap (scan p k) n ∙ ap (λ (t : Bool). cond t k (scan p (suc k) (c - (k + 1)))) e
-
-  pub scan_end : (k c : ℕ) → c ≤ k → scan p k (c - k) ≡ k
-  unfolding scan
-  scan_end k c h =
-      let n : c - k ≡ 0 = omega arith in
-      ap (scan p k) n
 
   pub lowest_le : (n : ℕ) → lowest p n ≤ n
   lowest_le n = omega (arith, scan_le 0 n)
@@ -124,21 +97,6 @@ module _ (p : ℕ → Bool) where
   tally_not zero = refl
   tally_not (suc n) = omega (arith, tally_not n, of_both (p n))
 
-  -- a loop that counts: those below k, and one turn more
-  pub tally_start : 0 ≡ tally p 0
-  unfolding tally
-  tally_start = refl
-
-  pub tally_skip : (k : ℕ) → p k ≡ false → tally p k ≡ tally p (k + 1)
-  unfolding tally
-  tally_skip k e =
-      let z : tally p k ≡ tally p k + 0 = omega arith in
-      z ∙ ap (λ (t : Bool). tally p k + cond t 1 0) (sym e) ∙ ap (tally p) (sym (add-one k))
-
-  pub tally_more : (k : ℕ) → p k ≡ true → tally p k + 1 ≡ tally p (k + 1)
-  unfolding tally
-  tally_more k e = ap (λ (t : Bool). tally p k + cond t 1 0) (sym e) ∙ ap (tally p) (sym (add-one k))
-
 -- ---- places by their sheet number
 
 -- whether place k has sheet number n
@@ -149,10 +107,6 @@ module _ (c : ℕ) (r : ℕ → List ℕ) (n : ℕ) where
   pub find_by_lem : find_by c r n ≡ lowest (has_num r n) c
   unfolding find_by
   find_by_lem = refl
-
-  pub find_start : find_by c r n ≡ scan (has_num r n) 0 (c - 0)
-  unfolding find_by
-  find_start = sym (scan_start (has_num r n) c)
 
   pub find_le : find_by c r n ≤ c
   unfolding find_by
