@@ -9,15 +9,17 @@ use native.Mathlib.Omega.{arith}
 use borrow.Author.Tests.{eqb-true, eqb-false, ltb-false, le-ltb}
 use lib.Dec.{eqb, ltb}
 use lib.ListN.{length}
+use Rattle.std.specs.Prelude.{Ok, Err, Result}
 use Rattle.block.specs.Bytes.{Bytes}
 use Rattle.block.proofs.BoolLaws.{clash}
+use Rattle.numbers.specs.declared.Refusal.{Refusal}
 use Rattle.numbers.specs.declared.Refusal.TheVariants.{StoreLength}
 use Rattle.records.specs.Record.{record_size, num, sound}
 use Rattle.slots.specs.Slots.{slots, slot, put, lowest, find, bad_size}
 use Rattle.slots.proofs.FindLaws.{find_has, find_lowest, lowest_has, lowest_below}
 use Rattle.slots.proofs.PutLaws.{slot_other, slots_put, slot_put}
 use Rattle.checking.specs.declared.Checked.{Checked}
-use Rattle.checking.specs.declared.Checked.TheVariants.{Counts, Fault, Refused}
+use Rattle.checking.specs.declared.Checked.TheVariants.{Counts, Fault}
 use Rattle.checking.specs.Check.{faulty, first_fault, counts, check_answer}
 use Rattle.claims.specs.Claims.{Passes}
 use Rattle.claims.proofs.Simulation.{SoundStore}
@@ -26,10 +28,10 @@ use Rattle.claims.proofs.Simulation.{SoundStore}
 abbrev pub Apart : List ℕ → Type 0
 Apart s = (j k : ℕ) → j < slots s → k < slots s → (num (slot s j) ≡ 0 → ⊥) → num (slot s j) ≡ num (slot s k) → j ≡ k
 
-abbrev kind : Checked → ℕ
-kind (Counts u f c o n) = 0
-kind (Fault k) = 1
-kind (Refused x) = 2
+abbrev kind : Result Checked Refusal → ℕ
+kind (Ok (Counts c)) = 0
+kind (Ok (Fault k)) = 1
+kind (Err x) = 2
 
 -- ---- from the check
 
@@ -39,7 +41,7 @@ unfolding check_answer
 nothing_found s e = by_tests (bad_size s) (ltb (first_fault s) (slots s)) refl refl e
   where
     by_tests : (a b : Bool) → bad_size s ≡ a → ltb (first_fault s) (slots s) ≡ b
-        → cond a (Refused StoreLength) (cond b (Fault (first_fault s)) (counts s)) ≡ counts s
+        → cond a (Err StoreLength) (cond b (Ok (Fault (first_fault s))) (counts s)) ≡ counts s
         → (bad_size s ≡ false) × (slots s ≤ first_fault s)
     by_tests true b p q x = let z : ◌≡◌ {A = ℕ} 2 0 = ap kind x in let y : ⊥ = omega arith in absurd y
     by_tests false true p q x = let z : ◌≡◌ {A = ℕ} 1 0 = ap kind x in let y : ⊥ = omega arith in absurd y
@@ -89,7 +91,7 @@ unfolding check_answer first_fault
 none_faulty s b f =
     let p : ℕ → Bool = faulty s in
     let h : lowest p (slots s) < slots s → ⊥ = λ q. clash (p (lowest p (slots s))) (lowest_has p (slots s) q) (f (lowest p (slots s)) q) in
-    ap₂ (λ (x y : Bool). cond x (Refused StoreLength) (cond y (Fault (lowest p (slots s))) (counts s))) b
+    ap₂ (λ (x y : Bool). cond x (Err StoreLength) (cond y (Ok (Fault (lowest p (slots s)))) (counts s))) b
     (le-ltb (lowest p (slots s)) (slots s) (omega (arith, h)))
 
 pub good_passes : (s : List ℕ) → SoundStore s → Apart s → Passes s

@@ -5,11 +5,10 @@ use mathlib.Core.Path.{◌≡◌}
 use mathlib.Core.Bool.{false}
 use mathlib.Core.List.{List}
 use Prim.Native.Nat.{ℕ, ◌<◌}
+use Rattle.std.specs.Prelude.{Ok}
 use Rattle.block.specs.Bytes.{Bytes}
 use Rattle.slots.specs.Slots.{slots}
-use Rattle.plans.specs.declared.Plan.TheVariants.{At}
 use Rattle.plans.specs.Plans.{bad_keys, step_plan}
-use Rattle.store.specs.declared.Stored.TheVariants.{Revision}
 use Rattle.claims.specs.View.{plain}
 use Rattle.claims.specs.Machine.{Event, revising, AllAllowed, of_stored, State, store_step, answers, final, list_answers, list_final}
 use Rattle.claims.specs.Claims.{Key, Passes, LastSlotClaim, KeepsOthers, only_the_first, every_slot, event_at, answer_at, RemovedAt}
@@ -55,7 +54,7 @@ module _ (o w : List ℕ) (ko : Key o) (kw : Key w) where
     -- between them, whatever else does
     pub at_most_one : (n v i j : ℕ) → i < j → (t t' : List ℕ) → event_at es i ≡ revising n v t → event_at es j ≡ revising n v t'
         → ((k : ℕ) → i < k → k < j → RemovedAt o w es st n k → ⊥)
-        → (r r' : ℕ) → answer_at (answers o w es st) i ≡ of_stored (Revision r) → answer_at (answers o w es st) j ≡ of_stored (Revision r') → ⊥
+        → (r r' : ℕ) → answer_at (answers o w es st) i ≡ of_stored (Ok r) → answer_at (answers o w es st) j ≡ of_stored (Ok r') → ⊥
     at_most_one n v i j = one_of_two o w keys ko.0 kw.0 n v es st h whole i j
 
   -- once a copy begun at slot 0 has made as many steps as there are slots, no sheet is marked clear or old key, and none ever is again
@@ -63,7 +62,7 @@ module _ (o w : List ℕ) (ko : Key o) (kw : Key w) where
   no_sheet_left = last_slot o w keys ko.0 kw.0
 
   -- from a store that passes the check no step is refused, wherever it stands
-  pub no_step_refused : (s : List ℕ) → Bytes s → Passes s → (k : ℕ) → step_plan o w s k ≡ At k
+  pub no_step_refused : (s : List ℕ) → Bytes s → Passes s → (k : ℕ) → step_plan o w s k ≡ Ok k
   no_step_refused s bs ok k = step_taken o w s k keys (passes_sound s bs ok).size
 
   -- a step keeps every byte of the other slots

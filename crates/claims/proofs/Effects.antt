@@ -10,20 +10,19 @@ use native.Mathlib.Omega.{arith}
 use borrow.Author.Tests.{eqb-false, leb-false}
 use lib.Dec.{eqb, leb}
 use lib.ListN.{length, set}
+use Rattle.std.specs.Prelude.{Ok, Err}
 use Rattle.block.specs.Bytes.{Bytes}
 use Rattle.block.proofs.BytesLaws.{bytes_zeros}
 use Rattle.block.proofs.RowLaws.{bytes-row}
 use Rattle.records.specs.Record.{record_size, text_most, greatest_revision, num, rev, mark, len, sound}
 use Rattle.records.proofs.FieldLaws.{sound_len, sound_fields, num_bound, rev_bound}
-use Rattle.slots.specs.Slots.{slots, slot, emptied}
+use Rattle.slots.specs.Slots.{slots, slot, put, emptied}
 use Rattle.slots.proofs.SlotLaws.{length-slot}
 use Rattle.slots.proofs.PutLaws.{sound_emptied, length-emptied}
 use Rattle.sheets.specs.Text.{text_of, sheet}
 use Rattle.sheets.proofs.SheetLaws.{num_sheet, rev_sheet, length-sheet, sound_sheet, bytes-sheet}
 use Rattle.sheets.proofs.TextLaws.{length-text_of, bytes-text_of}
-use Rattle.plans.specs.declared.Plan.{Plan}
-use Rattle.plans.specs.declared.Plan.TheVariants.{Refuse, At}
-use Rattle.plans.specs.Plans.{bad_keys, add_plan, revise_plan, remove_plan}
+use Rattle.plans.specs.Plans.{bad_keys, add_plan, revise_plan, remove_plan, Plan}
 use Rattle.plans.proofs.PlanLaws.{used, add_says, revise_says, remove_says}
 use Rattle.store.specs.declared.Outcome.{Outcome}
 use Rattle.store.specs.declared.Outcome.TheVariants.{Done, Free, Damaged, Already, Converted}
@@ -95,12 +94,24 @@ convert_says o w s k bo bw bs e =
       revision = rev_sheet w (num r) (rev r) t (rev_bound r br);
     }
 
+-- what holds of the store as it is, and of it with the slot rekeyed where the slot is converted, holds of the store that a step leaves
+pub left_by_step : (o w s : List ℕ) (k : ℕ) (P : List ℕ → Type 0) → P s → (outcome_at s k ≡ Converted → P (put s k (rekeyed o w s k)))
+    → P (converted_at o w s k (outcome_at s k))
+left_by_step o w s k P kept converted = by_outcome (outcome_at s k) refl
+  where
+    by_outcome : (x : Outcome) → outcome_at s k ≡ x → P (converted_at o w s k x)
+    by_outcome Done e = kept
+    by_outcome Free e = kept
+    by_outcome Damaged e = kept
+    by_outcome Already e = kept
+    by_outcome Converted e = converted e
+
 -- ---- the effects
 
 module _ (o w s : List ℕ) (keys : bad_keys o w ≡ false) (bo : Bytes o) (bw : Bytes w) (g : SoundStore s) where
   pub effect_remove : (n : ℕ) (p : Plan) → remove_plan s n ≡ p → (plain o w (remove_store s p) ≡ after_remove (plain o w s) p) × SoundStore (remove_store s p)
-  effect_remove n (Refuse x) e = (refl, g)
-  effect_remove n (At k) e =
+  effect_remove n (Err x) e = (refl, g)
+  effect_remove n (Ok k) e =
       let h : k < slots s = (remove_says s n k e).1.within in (
         put_plain o w s k emptied h length-emptied ∙ ap (set (plain o w s) k) (place_emptied o w),
         sound_put s k h emptied length-emptied g (bytes_zeros record_size) sound_emptied,
@@ -108,8 +119,8 @@ module _ (o w s : List ℕ) (keys : bad_keys o w ≡ false) (bo : Bytes o) (bw :
 
   pub effect_add : (n : ℕ) (t : List ℕ) → n < 4294967296 → Bytes t → (p : Plan) → add_plan o w s n t ≡ p
       → (plain o w (add_store w s n t p) ≡ after_add (plain o w s) n t p) × SoundStore (add_store w s n t p)
-  effect_add n t hn bt (Refuse x) e = (refl, g)
-  effect_add n t hn bt (At k) e =
+  effect_add n t hn bt (Err x) e = (refl, g)
+  effect_add n t hn bt (Ok k) e =
       let a = add_says o w s n t k e in
       let x : List ℕ = sheet w n 1 t in
       let lx : length x ≡ record_size = length-sheet w n 1 t bw bt a.fits in (
@@ -119,8 +130,8 @@ module _ (o w s : List ℕ) (keys : bad_keys o w ≡ false) (bo : Bytes o) (bw :
 
   pub effect_revise : (n v : ℕ) (t : List ℕ) → n < 4294967296 → Bytes t → (p : Plan) → revise_plan o w s n v t ≡ p
       → (plain o w (revise_store w s n t p) ≡ after_revise (plain o w s) n t p) × SoundStore (revise_store w s n t p)
-  effect_revise n v t hn bt (Refuse x) e = (refl, g)
-  effect_revise n v t hn bt (At k) e =
+  effect_revise n v t hn bt (Err x) e = (refl, g)
+  effect_revise n v t hn bt (Ok k) e =
       let a = revise_says o w s n v t k e in
       let r : List ℕ = slot s k in
       let hv : rev r + 1 ≤ greatest_revision = omega (arith, rev_bound r (bytes-row record_size s k g.bytes), a.below) in
@@ -135,13 +146,10 @@ module _ (o w s : List ℕ) (keys : bad_keys o w ≡ false) (bo : Bytes o) (bw :
             (sound_sheet w n (rev r + 1) t bw bt a.fits a.at.some hn (omega arith) hv a.long),
       )
 
-  -- a step leaves the list as it was
-  converted : (k : ℕ) (x : Outcome) → outcome_at s k ≡ x → (plain o w (converted_at o w s k x) ≡ plain o w s) × SoundStore (converted_at o w s k x)
-  converted k Done e = (refl, g)
-  converted k Free e = (refl, g)
-  converted k Damaged e = (refl, g)
-  converted k Already e = (refl, g)
-  converted k Converted e =
+  -- a slot that is converted leaves the list as it was
+  converted : (k : ℕ) → outcome_at s k ≡ Converted
+      → (plain o w (put s k (rekeyed o w s k)) ≡ plain o w s) × SoundStore (put s k (rekeyed o w s k))
+  converted k e =
       let c = convert_says o w s k bo bw g.bytes e in
       let r : List ℕ = slot s k in
       let br : Bytes r = bytes-row record_size s k g.bytes in
@@ -158,5 +166,5 @@ module _ (o w s : List ℕ) (keys : bad_keys o w ≡ false) (bo : Bytes o) (bw :
       )
 
   pub effect_step : (p : Plan) → (plain o w (step_store o w s p) ≡ plain o w s) × SoundStore (step_store o w s p)
-  effect_step (Refuse x) = (refl, g)
-  effect_step (At k) = converted k (outcome_at s k) refl
+  effect_step (Err x) = (refl, g)
+  effect_step (Ok k) = left_by_step o w s k (λ x. (plain o w x ≡ plain o w s) × SoundStore x) (refl, g) (converted k)

@@ -14,8 +14,7 @@ use Rattle.slots.proofs.PutLaws.{slots_put, slot_put}
 use Rattle.checking.specs.Check.{marked}
 use Rattle.sheets.specs.Text.{text_of}
 use Rattle.sheets.proofs.SheetLaws.{mark_sheet}
-use Rattle.plans.specs.declared.Plan.{Plan}
-use Rattle.plans.specs.Plans.{bad_keys, step_plan}
+use Rattle.plans.specs.Plans.{bad_keys, step_plan, Plan}
 use Rattle.store.specs.declared.Outcome.TheVariants.{Converted}
 use Rattle.store.specs.Calls.{outcome_at, moved_from, converted_at, step_answer, place_after, step_store}
 use Rattle.store.proofs.StepLaws.{inside, is_converted}

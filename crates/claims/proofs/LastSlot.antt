@@ -8,6 +8,7 @@ use native.Mathlib.Omega.{arith}
 use borrow.Author.Tests.{eqb-true, eqb-false, eq-eqb, leb-true, leb-false}
 use lib.Dec.{eqb, leb}
 use lib.ListN.{length}
+use Rattle.std.specs.Prelude.{Ok, Err}
 use Rattle.block.specs.Bytes.{Bytes}
 use Rattle.records.specs.Record.{record_size, num, rev, mark, sound}
 use Rattle.slots.specs.Slots.{slots, slot, put, emptied, bad_size}
@@ -15,9 +16,7 @@ use Rattle.slots.proofs.PutLaws.{length-emptied, slots_put, num_emptied, every}
 use Rattle.checking.specs.Check.{marked}
 use Rattle.sheets.specs.Text.{text_of, sheet}
 use Rattle.sheets.proofs.SheetLaws.{mark_sheet, length-sheet}
-use Rattle.plans.specs.declared.Plan.{Plan}
-use Rattle.plans.specs.declared.Plan.TheVariants.{Refuse, At}
-use Rattle.plans.specs.Plans.{bad_keys, add_plan, revise_plan, remove_plan, step_plan}
+use Rattle.plans.specs.Plans.{bad_keys, add_plan, revise_plan, remove_plan, step_plan, Plan}
 use Rattle.plans.proofs.PlanLaws.{opened_no, remove_says, add_says, revise_says}
 use Rattle.store.specs.declared.Outcome.{Outcome}
 use Rattle.store.specs.declared.Outcome.TheVariants.{Done, Free, Damaged, Already, Converted}
@@ -26,7 +25,7 @@ use Rattle.store.specs.Conversions.{refuses, gives}
 use Rattle.claims.specs.Machine.{Event, reading, adding, converting, revising, removing, stepping, AllAllowed, State, store_step, moved, next, final}
 use Rattle.claims.specs.Claims.{NoneLeft, steps_of, LastSlotClaim}
 use Rattle.claims.proofs.Simulation.{SoundStore}
-use Rattle.claims.proofs.Effects.{rekeyed, convert_says}
+use Rattle.claims.proofs.Effects.{rekeyed, convert_says, left_by_step}
 use Rattle.claims.proofs.Traces.{one_next, same_list, slots_stay}
 use Rattle.claims.proofs.Joining.{final_join, allowed_left, allowed_right}
 use Rattle.claims.proofs.Checking.{passes_sound}
@@ -108,21 +107,17 @@ module _ (o w s : List ℕ) (bo : Bytes o) (bw : Bytes w) (g : SoundStore s) whe
   undamaged : (k : ℕ) → Says s k Damaged → ⊥
   undamaged k c = let z : ◌≡◌ {A = ℕ} 1 0 = ap (λ (t : Bool). cond t 1 0) (sym (g.each k c.0) ∙ c.1) in let y : ⊥ = omega arith in y
 
-  slots_converted : (k : ℕ) (x : Outcome) → outcome_at s k ≡ x → slots (converted_at o w s k x) ≡ slots s
-  slots_converted k Done e = refl
-  slots_converted k Free e = refl
-  slots_converted k Damaged e = refl
-  slots_converted k Already e = refl
-  slots_converted k Converted e = let c = convert_says o w s k bo bw g.bytes e in slots_put s k c.within (rekeyed o w s k) c.whole
+  slots_converted : (k : ℕ) → slots (converted_at o w s k (outcome_at s k)) ≡ slots s
+  slots_converted k =
+      left_by_step o w s k (λ x. slots x ≡ slots s) refl
+      (λ e. let c = convert_says o w s k bo bw g.bytes e in slots_put s k c.within (rekeyed o w s k) c.whole)
 
-  behind_others : (p k : ℕ) (x : Outcome) → outcome_at s k ≡ x → Behind p s → Behind p (converted_at o w s k x)
-  behind_others p k Done e b = b
-  behind_others p k Free e b = b
-  behind_others p k Damaged e b = b
-  behind_others p k Already e b = b
-  behind_others p k Converted e b =
+  behind_others : (p k : ℕ) → Behind p s → Behind p (converted_at o w s k (outcome_at s k))
+  behind_others p k b =
+      left_by_step o w s k (Behind p) b
+      (λ e.
       let c = convert_says o w s k bo bw g.bytes e in
-      behind_put s k c.within (rekeyed o w s k) c.whole (ready_sheet w (num (slot s k)) (rev (slot s k)) (text_of o w (slot s k))) p b
+      behind_put s k c.within (rekeyed o w s k) c.whole (ready_sheet w (num (slot s k)) (rev (slot s k)) (text_of o w (slot s k))) p b)
 
   behind_own : (k : ℕ) (x : Outcome) → outcome_at s k ≡ x → Behind k s → Behind (moved_from k x) (converted_at o w s k x)
   behind_own k Done e b = b
@@ -141,8 +136,8 @@ module _ (o w s : List ℕ) (bo : Bytes o) (bw : Bytes w) (g : SoundStore s) whe
   further n k Converted e f h = let d : n ≤ k = f (subst (Says s k) e (says s k)) in omega arith
 
 -- with keys and a store of allowed sizes a step is never refused
-pub step_taken : (o w s : List ℕ) (k : ℕ) → bad_keys o w ≡ false → bad_size s ≡ false → step_plan o w s k ≡ At k
-step_taken o w s k a b = opened_no o w s a b (At k)
+pub step_taken : (o w s : List ℕ) (k : ℕ) → bad_keys o w ≡ false → bad_size s ≡ false → step_plan o w s k ≡ Ok k
+step_taken o w s k a b = opened_no o w s a b (Ok k)
 
 -- ---- a copy that has made n steps: the slots behind it are ready, and it is n on or past the end
 
@@ -152,21 +147,21 @@ Reached n p s = Behind p s × (p < slots s → n ≤ p)
 module _ (o w : List ℕ) (keys : bad_keys o w ≡ false) (bo : Bytes o) (bw : Bytes w) (c : ℕ) where
   module _ (s : List ℕ) (g : SoundStore s) (n p : ℕ) (r : Reached n p s) where
     kept_by_remove : (i : ℕ) (q : Plan) → remove_plan s i ≡ q → Reached n p (remove_store s q)
-    kept_by_remove i (Refuse x) e = r
-    kept_by_remove i (At k) e =
+    kept_by_remove i (Err x) e = r
+    kept_by_remove i (Ok k) e =
         let h : k < slots s = (remove_says s i k e).1.within in
         (behind_put s k h emptied length-emptied ready_emptied p r.0, λ a. r.1 (omega (arith, slots_put s k h emptied length-emptied)))
 
     kept_by_add : (i : ℕ) (t : List ℕ) → Bytes t → (q : Plan) → add_plan o w s i t ≡ q → Reached n p (add_store w s i t q)
-    kept_by_add i t bt (Refuse x) e = r
-    kept_by_add i t bt (At k) e =
+    kept_by_add i t bt (Err x) e = r
+    kept_by_add i t bt (Ok k) e =
         let a = add_says o w s i t k e in
         let l : length (sheet w i 1 t) ≡ record_size = length-sheet w i 1 t bw bt a.fits in
         (behind_put s k a.within (sheet w i 1 t) l (ready_sheet w i 1 t) p r.0, λ b. r.1 (omega (arith, slots_put s k a.within (sheet w i 1 t) l)))
 
     kept_by_revise : (i v : ℕ) (t : List ℕ) → Bytes t → (q : Plan) → revise_plan o w s i v t ≡ q → Reached n p (revise_store w s i t q)
-    kept_by_revise i v t bt (Refuse x) e = r
-    kept_by_revise i v t bt (At k) e =
+    kept_by_revise i v t bt (Err x) e = r
+    kept_by_revise i v t bt (Ok k) e =
         let a = revise_says o w s i v t k e in
         let x : List ℕ = sheet w i (rev (slot s k) + 1) t in
         let l : length x ≡ record_size = length-sheet w i (rev (slot s k) + 1) t bw bt a.fits in
@@ -188,11 +183,11 @@ module _ (o w : List ℕ) (keys : bad_keys o w ≡ false) (bo : Bytes o) (bw : B
       x : Outcome
       x = outcome_at s k
 
-      plan : step_plan o w s k ≡ At k
+      plan : step_plan o w s k ≡ Ok k
       plan = step_taken o w s k keys g.size
 
       same : slots (converted_at o w s k x) ≡ slots s
-      same = slots_converted o w s bo bw g k x refl
+      same = slots_converted o w s bo bw g k
 
       by_copy : (t : Bool) → eqb c d ≡ t → Reached (cond t (suc n) n) (cond t (moved_from k x) (st.place c)) (converted_at o w s k x)
       by_copy true e =
@@ -200,7 +195,7 @@ module _ (o w : List ℕ) (keys : bad_keys o w ≡ false) (bo : Bytes o) (bw : B
           let b : Behind k s = subst (λ (i : ℕ). Behind i s) q r.0 in
           let f : k < slots s → n ≤ k = λ y. let z : n ≤ st.place c = r.1 (omega arith) in omega arith in
           (behind_own o w s bo bw g k x refl b, λ a. further o w s bo bw g n k x refl f (omega (arith, same)))
-      by_copy false e = (behind_others o w s bo bw g (st.place c) k x refl r.0, λ a. r.1 (omega (arith, same)))
+      by_copy false e = (behind_others o w s bo bw g (st.place c) k r.0, λ a. r.1 (omega (arith, same)))
 
   reached : (es : List Event) (st : State) → AllAllowed es → SoundStore st.store → (n : ℕ) → Reached n (st.place c) st.store
       → Reached (n + steps_of c es) ((final o w es st).place c) (final o w es st).store

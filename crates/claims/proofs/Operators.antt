@@ -9,20 +9,16 @@ use native.Mathlib.Omega.{arith}
 use borrow.Author.Tests.{ne_eqb, le-ltb}
 use lib.Dec.{eqb, ltb}
 use lib.ListN.{length, drop, set, length-set}
+use Rattle.std.specs.Prelude.{Ok, Err}
 use Rattle.block.specs.Bytes.{Bytes}
 use Rattle.numbers.specs.declared.Refusal.{Refusal}
-use Rattle.plans.specs.declared.Plan.{Plan}
-use Rattle.plans.specs.declared.Plan.TheVariants.{Refuse, At}
 use Rattle.plans.proofs.PlanLaws.{no}
-use Rattle.store.specs.declared.Text.TheVariants.{Read}
-use Rattle.store.specs.declared.Stored.{Stored}
-use Rattle.store.specs.declared.Stored.TheVariants.{Refused, Revision}
-use Rattle.store.specs.declared.Removed.{Removed}
-use Rattle.store.specs.declared.Removed.TheVariants as removed
-use Rattle.claims.specs.Plain.{Place, nothing, holding, number_of, revision_of, text_in, at, find_in, read_in, add_in, revise_in, remove_in}
+use Rattle.plans.specs.Plans.{Plan}
+use Rattle.claims.specs.Plain.{Place, nothing, holding, number_of, revision_of, text_in, at, find_in, read_in, add_in, revise_in, remove_in, a_text}
 use Rattle.claims.specs.Plain.{read_text, read_into, added, after_add, revised, after_revise, gone, after_remove}
 use Rattle.claims.specs.View.{plain}
 use Rattle.store.specs.Conversions.{refuses, gives}
+use Rattle.store.specs.Calls.{Stored, Removed}
 use Rattle.claims.specs.Machine.{Event, reading, adding, converting, revising, removing, stepping, AllAllowed, Answer, of_read, of_stored, of_removed}
 use Rattle.claims.specs.Machine.{State, answers, final, list_answer, list_next, list_answers, list_final}
 use Rattle.claims.specs.Claims.{Key, Passes, event_at, answer_at}
@@ -93,32 +89,32 @@ module _ (n r : ℕ) (t : List ℕ) (z : n ≡ 0 → ⊥) where
       (omega (arith, length-set l k x, c.0), ap (at (set l k x)) f ∙ at_other l k h x (find_in l n) away ∙ c.1)
 
   holds_add : (l : List Place) → Holds n r t l → (m : ℕ) (u : List ℕ) (p : Plan) → add_in l m u ≡ p → Holds n r t (after_add l m u p)
-  holds_add l c m u (Refuse x) e = c
-  holds_add l c m u (At k) e =
+  holds_add l c m u (Err x) e = c
+  holds_add l c m u (Ok k) e =
       let a = adds_at l m u k e in
       holds_set l k a.within (holding m 1 u) (λ q. z (sym q ∙ a.free))
       (λ q. let y : find_in l m ≡ find_in l n = ap (find_in l) q in let v : ⊥ = omega (arith, a.new, c.0) in v) c
 
   holds_revise : (l : List Place) → Holds n r t l → (m v : ℕ) (u : List ℕ) (p : Plan) → revise_in l m v u ≡ p
-      → ((i : ℕ) → m ≡ n → revised l p ≡ Revision i → ⊥) → Holds n r t (after_revise l m u p)
-  holds_revise l c m v u (Refuse x) e d = c
-  holds_revise l c m v u (At k) e d =
+      → ((i : ℕ) → m ≡ n → revised l p ≡ Ok i → ⊥) → Holds n r t (after_revise l m u p)
+  holds_revise l c m v u (Err x) e d = c
+  holds_revise l c m v u (Ok k) e d =
       let a = revises_at l m v u k e in
       let y : m ≡ n → ⊥ = λ q. d (revision_of (at l k) + 1) q refl in
       holds_set l k a.within (holding m (revision_of (at l k) + 1) u) (λ q. y (sym a.number ∙ q)) y c
 
   holds_remove : (l : List Place) → Holds n r t l
-      → (m : ℕ) (p : Plan) → remove_in l m ≡ p → (m ≡ n → gone p ≡ removed.Done → ⊥) → Holds n r t (after_remove l p)
-  holds_remove l c m (Refuse x) e d = c
-  holds_remove l c m (At k) e d =
+      → (m : ℕ) (p : Plan) → remove_in l m ≡ p → (m ≡ n → gone p ≡ Ok tt → ⊥) → Holds n r t (after_remove l p)
+  holds_remove l c m (Err x) e d = c
+  holds_remove l c m (Ok k) e d =
       let a = removes_at l m k e in
       let y : m ≡ n → ⊥ = λ q. d q refl in
       holds_set l k a.within nothing (λ q. y (sym a.number ∙ q)) (λ q. z (sym q)) c
 
-  is_revised : (m v : ℕ) (u : List ℕ) (i : ℕ) (a : Stored) → m ≡ n → a ≡ Revision i → Changed n (revising m v u) (of_stored a)
+  is_revised : (m v : ℕ) (u : List ℕ) (i : ℕ) (a : Stored) → m ≡ n → a ≡ Ok i → Changed n (revising m v u) (of_stored a)
   is_revised m v u i a q e = rw (q, e) (revised_anew v u i)
 
-  is_removed : (m : ℕ) (a : Removed) → m ≡ n → a ≡ removed.Done → Changed n (removing m) (of_removed a)
+  is_removed : (m : ℕ) (a : Removed) → m ≡ n → a ≡ Ok tt → Changed n (removing m) (of_removed a)
   is_removed m a q e = rw (q, e) taken_out
 
   -- whatever comes next, but for an accepted revision or removal of the sheet
@@ -134,22 +130,22 @@ module _ (n r : ℕ) (t : List ℕ) (z : n ≡ 0 → ⊥) where
 
   -- a read into a buffer that is long enough
   read_held : (l : List Place) → Holds n r t l → (b : List ℕ) → length t ≤ length b
-      → list_answer (reading n b) l ≡ of_read (Read (length t) r) (t ++ drop (length t) b)
+      → list_answer (reading n b) l ≡ of_read (a_text (length t) r) (t ++ drop (length t) b)
   unfolding read_in
   read_held l c b h =
       let k : ℕ = find_in l n in
       let x : Place = at l k in
       let fits : ltb (length b) (length (text_in x)) ≡ false = ap (λ (y : Place). ltb (length b) (length (text_in y))) c.1 ∙ le-ltb (length b) (length t) h in
-      let p : read_in l n (length b) ≡ At k =
+      let p : read_in l n (length b) ≡ Ok k =
       no _ _ _ (ne_eqb n 0 z) ∙ no _ _ _ (ne_eqb k (length l) (λ q. let y : ⊥ = omega (arith, c.0) in y)) ∙ no _ _ _ fits in
       ap (λ (q : Plan). of_read (read_text l q) (read_into l b q)) p
-      ∙ ap (λ (y : Place). of_read (Read (length (text_in y)) (revision_of y)) (text_in y ++ drop (length (text_in y)) b)) c.1
+      ∙ ap (λ (y : Place). of_read (a_text (length (text_in y)) (revision_of y)) (text_in y ++ drop (length (text_in y)) b)) c.1
 
   -- along the events
   stays : (es : List Event) (l : List Place) → Holds n r t l → (j : ℕ)
       → ((k : ℕ) → k < j → Changed n (event_at es k) (answer_at (list_answers es l) k) → ⊥)
       → (b : List ℕ) → event_at es j ≡ reading n b → length t ≤ length b
-      → answer_at (list_answers es l) j ≡ of_read (Read (length t) r) (t ++ drop (length t) b)
+      → answer_at (list_answers es l) j ≡ of_read (a_text (length t) r) (t ++ drop (length t) b)
   stays [] l c j d b e h = absurd (no_read n b e)
   stays (x ∷ es) l c zero d b e h = ap (λ (y : Event). list_answer y l) e ∙ read_held l c b h
   stays (x ∷ es) l c (suc j) d b e h =
@@ -158,15 +154,15 @@ module _ (n r : ℕ) (t : List ℕ) (z : n ≡ 0 → ⊥) where
 -- ---- from the accepted add or revision on
 
 module _ (n : ℕ) (t : List ℕ) (r : ℕ) where
-  refused_not : (x : Refusal) → of_stored (Refused x) ≡ of_stored (Revision r) → ⊥
+  refused_not : (x : Refusal) → of_stored (Err x) ≡ of_stored (Ok r) → ⊥
   refused_not x e = let q : ◌≡◌ {A = ℕ} 0 1 = cc in let y : ⊥ = omega arith in y
 
-  same_revision : (i : ℕ) → of_stored (Revision i) ≡ of_stored (Revision r) → i ≡ r
+  same_revision : (i : ℕ) → of_stored (Ok i) ≡ of_stored (Ok r) → i ≡ r
   same_revision i e = cc
 
-  holds_added : (l : List Place) (p : Plan) → add_in l n t ≡ p → of_stored (added p) ≡ of_stored (Revision r) → (n ≡ 0 → ⊥) × Holds n r t (after_add l n t p)
-  holds_added l (Refuse x) e q = absurd (refused_not x q)
-  holds_added l (At k) e q =
+  holds_added : (l : List Place) (p : Plan) → add_in l n t ≡ p → of_stored (added p) ≡ of_stored (Ok r) → (n ≡ 0 → ⊥) × Holds n r t (after_add l n t p)
+  holds_added l (Err x) e q = absurd (refused_not x q)
+  holds_added l (Ok k) e q =
       let a = adds_at l n t k e in
       let x : Place = holding n 1 t in
       let f : find_in (set l k x) n ≡ k =
@@ -175,10 +171,10 @@ module _ (n : ℕ) (t : List ℕ) (r : ℕ) where
         (omega (arith, a.within, length-set l k x), ap (at (set l k x)) f ∙ at_set l k a.within x ∙ ap (λ (i : ℕ). holding n i t) (same_revision 1 q)),
       )
 
-  holds_revised : (l : List Place) (v : ℕ) (p : Plan) → revise_in l n v t ≡ p → of_stored (revised l p) ≡ of_stored (Revision r)
+  holds_revised : (l : List Place) (v : ℕ) (p : Plan) → revise_in l n v t ≡ p → of_stored (revised l p) ≡ of_stored (Ok r)
       → (n ≡ 0 → ⊥) × Holds n r t (after_revise l n t p)
-  holds_revised l v (Refuse x) e q = absurd (refused_not x q)
-  holds_revised l v (At k) e q =
+  holds_revised l v (Err x) e q = absurd (refused_not x q)
+  holds_revised l v (Ok k) e q =
       let a = revises_at l n v t k e in
       let i : ℕ = revision_of (at l k) + 1 in
       let x : Place = holding n i t in
@@ -194,7 +190,7 @@ module _ (n : ℕ) (t : List ℕ) (r : ℕ) where
 
   list_back : (es : List Event) (l : List Place) (i j : ℕ) → i < j → Written n t r (event_at es i) (answer_at (list_answers es l) i)
       → Unchanged n es (list_answers es l) i j → (b : List ℕ) → event_at es j ≡ reading n b → length t ≤ length b
-      → answer_at (list_answers es l) j ≡ of_read (Read (length t) r) (t ++ drop (length t) b)
+      → answer_at (list_answers es l) j ≡ of_read (a_text (length t) r) (t ++ drop (length t) b)
   list_back [] l i j h a u b e f = absurd (no_read n b e)
   list_back (x ∷ es) l zero zero h a u b e f = let y : ⊥ = omega arith in absurd y
   list_back (x ∷ es) l (suc i) zero h a u b e f = let y : ⊥ = omega arith in absurd y
@@ -210,7 +206,7 @@ pub read_back : (o w : List ℕ) → Key o → Key w → (st : State) → Bytes 
     → (n : ℕ) (t : List ℕ) (r i j : ℕ) → i < j → Written n t r (event_at es i) (answer_at (answers o w es st) i)
     → Unchanged n es (answers o w es st) i j
     → (b : List ℕ) → event_at es j ≡ reading n b → length t ≤ length b
-    → answer_at (answers o w es st) j ≡ of_read (Read (length t) r) (t ++ drop (length t) b)
+    → answer_at (answers o w es st) j ≡ of_read (a_text (length t) r) (t ++ drop (length t) b)
 read_back o w ko kw st bs ok es h n t r i j g a u b e f =
     let p : answers o w es st ≡ list_answers es (plain o w st.store) = answers_as_a_list o w ko kw st bs ok es h in
     ap (λ (x : List Answer). answer_at x j) p

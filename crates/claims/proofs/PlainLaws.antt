@@ -9,9 +9,9 @@ use borrow.Author.Tests.{eqb-true, eqb-false, eq-eqb, not-false}
 use lib.Dec.{eqb}
 use lib.ListN.{length, set, length-set}
 use lib.Seq.{get_or-set_same, get_or-set_other}
+use Rattle.std.specs.Prelude.{Ok}
 use Rattle.slots.specs.Slots.{scan}
 use Rattle.slots.proofs.FindLaws.{lowest_le, lowest_has, lowest_below, lowest_is, scan_same}
-use Rattle.plans.specs.declared.Plan.TheVariants.{At}
 use Rattle.plans.proofs.PlanLaws.{passed, same_slot}
 use Rattle.claims.specs.Plain.{Place, nothing, number_of, at, find_in, absent_in, add_in, revise_in, remove_in}
 
@@ -73,7 +73,7 @@ pub record AddsAt (l : List Place) (n k : ℕ) : Type 0 where
   pub within : k < length l
   pub free : number_of (at l k) ≡ 0
 
-pub adds_at : (l : List Place) (n : ℕ) (t : List ℕ) (k : ℕ) → add_in l n t ≡ At k → AddsAt l n k
+pub adds_at : (l : List Place) (n : ℕ) (t : List ℕ) (k : ℕ) → add_in l n t ≡ Ok k → AddsAt l n k
 unfolding add_in
 adds_at l n t k e =
     let p1 = passed _ _ _ k e in
@@ -101,7 +101,7 @@ works_at l n k z a f =
     let h : find_in l n < length l = in_there l n a in
     record { some = eqb-false n 0 z; within = omega arith; place = f; number = sym (ap (λ (j : ℕ). number_of (at l j)) f) ∙ in_has l n h }
 
-pub revises_at : (l : List Place) (n v : ℕ) (t : List ℕ) (k : ℕ) → revise_in l n v t ≡ At k → WorksAt l n k
+pub revises_at : (l : List Place) (n v : ℕ) (t : List ℕ) (k : ℕ) → revise_in l n v t ≡ Ok k → WorksAt l n k
 unfolding revise_in
 revises_at l n v t k e =
     let p1 = passed _ _ _ k e in
@@ -111,7 +111,7 @@ revises_at l n v t k e =
     let p5 = passed _ _ _ k p4.1 in
     works_at l n k p1.0 p3.0 (same_slot _ _ p5.1)
 
-pub removes_at : (l : List Place) (n k : ℕ) → remove_in l n ≡ At k → WorksAt l n k
+pub removes_at : (l : List Place) (n k : ℕ) → remove_in l n ≡ Ok k → WorksAt l n k
 unfolding remove_in
 removes_at l n k e =
     let p1 = passed _ _ _ k e in

@@ -8,16 +8,14 @@ use Prim.Native.Nat.{ℕ, ◌<◌}
 use native.Mathlib.Omega.{arith}
 use borrow.Author.Tests.{eqb-true, eqb-false}
 use lib.Dec.{eqb}
+use Rattle.std.specs.Prelude.{Ok, Err}
 use Rattle.numbers.specs.declared.Refusal.TheVariants.{NoSheet}
 use Rattle.records.specs.Record.{num}
 use Rattle.slots.specs.Slots.{slots, slot, put, emptied, bad_size, find}
 use Rattle.slots.proofs.FindLaws.{find_le, find_has, find_lowest}
 use Rattle.slots.proofs.PutLaws.{slot_other, num_emptied, length-emptied, slots_put, slot_put, size_put}
-use Rattle.plans.specs.declared.Plan.{Plan}
-use Rattle.plans.specs.declared.Plan.TheVariants.{Refuse, At}
-use Rattle.plans.specs.Plans.{remove_plan}
+use Rattle.plans.specs.Plans.{remove_plan, Plan}
 use Rattle.plans.proofs.PlanLaws.{remove_says, remove_absent, remove_found, remove_sized}
-use Rattle.store.specs.declared.Removed.TheVariants.{Done, Refused}
 use Rattle.store.specs.Calls.{remove_answer, remove_store}
 use Rattle.claims.specs.Claims.{Passes, removed_again, RemovedOnce, RightSize}
 use Rattle.claims.proofs.Checking.{Apart, passes_apart}
@@ -40,7 +38,7 @@ nowhere s a n k z h e =
         let d : num (slot s j) ≡ n = sym (ap num (slot_other s k h emptied length-emptied j away)) ∙ q in
         away (a j k hj h (λ y. z (sym d ∙ y)) (d ∙ sym e))
 
-again : (s : List ℕ) → Apart s → (n k : ℕ) → remove_plan s n ≡ At k → remove_plan (put s k emptied) n ≡ Refuse NoSheet
+again : (s : List ℕ) → Apart s → (n k : ℕ) → remove_plan s n ≡ Ok k → remove_plan (put s k emptied) n ≡ Err NoSheet
 again s a n k e =
     let c = remove_says s n k e in
     let f = c.1 in
@@ -50,9 +48,9 @@ again s a n k e =
 pub remove_again : RemovedOnce Passes
 remove_again s bs ok n e = by_plan (remove_plan s n) refl e
   where
-    by_plan : (p : Plan) → remove_plan s n ≡ p → remove_answer p ≡ Done → remove_answer (remove_plan (remove_store s p) n) ≡ Refused NoSheet
-    by_plan (Refuse x) q c = let z : ◌≡◌ {A = ℕ} 0 1 = cc in let y : ⊥ = omega arith in absurd y
-    by_plan (At k) q c = ap remove_answer (again s (passes_apart s bs ok) n k q)
+    by_plan : (p : Plan) → remove_plan s n ≡ p → remove_answer p ≡ Ok tt → remove_answer (remove_plan (remove_store s p) n) ≡ Err NoSheet
+    by_plan (Err x) q c = let z : ◌≡◌ {A = ℕ} 0 1 = cc in let y : ⊥ = omega arith in absurd y
+    by_plan (Ok k) q c = ap remove_answer (again s (passes_apart s bs ok) n k q)
 
 -- ---- a number that stands in two slots, as in no store that passes the check: the second removal is accepted too
 
@@ -62,13 +60,13 @@ standing s n k h e =
     let away : k < find s n → ⊥ = λ q. find_lowest (slots s) (slot s) n k q e in
     omega (arith, away)
 
-taken : (s : List ℕ) → bad_size s ≡ false → (n : ℕ) → (n ≡ 0 → ⊥) → (k : ℕ) → k < slots s → num (slot s k) ≡ n → remove_plan s n ≡ At (find s n)
+taken : (s : List ℕ) → bad_size s ≡ false → (n : ℕ) → (n ≡ 0 → ⊥) → (k : ℕ) → k < slots s → num (slot s k) ≡ n → remove_plan s n ≡ Ok (find s n)
 taken s size n some k h e = remove_sized s n size ∙ remove_found (slots s) (slot s) n some (standing s n k h e)
 
 module _ (s : List ℕ) (size : bad_size s ≡ false) (n : ℕ) (some : n ≡ 0 → ⊥) (j k : ℕ) (apart : j ≡ k → ⊥)
     (hj : j < slots s) (hk : k < slots s) (ej : num (slot s j) ≡ n) (ek : num (slot s k) ≡ n) where
   -- one that is left once the lowest is empty
-  left : (m : ℕ) → m < slots s → num (slot s m) ≡ n → (m ≡ find s n → ⊥) → removed_again s n ≡ Done
+  left : (m : ℕ) → m < slots s → num (slot s m) ≡ n → (m ≡ find s n → ⊥) → removed_again s n ≡ Ok tt
   left m h e other =
       let f : ℕ = find s n in
       let hf : f < slots s = standing s n j hj ej in
@@ -78,10 +76,10 @@ module _ (s : List ℕ) (size : bad_size s ≡ false) (n : ℕ) (some : n ≡ 0 
       ap (λ (p : Plan). remove_answer (remove_plan (remove_store s p) n)) (taken s size n some j hj ej)
       ∙ ap remove_answer (taken s' (size_put s f hf emptied length-emptied ∙ size) n some m (omega arith) still)
 
-  pub accepted_again : removed_again s n ≡ Done
+  pub accepted_again : removed_again s n ≡ Ok tt
   accepted_again = by_slot (eqb j (find s n)) refl
     where
-      by_slot : (t : Bool) → eqb j (find s n) ≡ t → removed_again s n ≡ Done
+      by_slot : (t : Bool) → eqb j (find s n) ≡ t → removed_again s n ≡ Ok tt
       by_slot true c = left k hk ek (λ q. apart (eqb-true j (find s n) c ∙ sym q))
       by_slot false c = left j hj ej (eqb-false j (find s n) c)
 
@@ -99,7 +97,7 @@ first_number = ap num (first_of_two 1 1) ∙ num_clear 1 (omega arith)
 second_number : num (slot twice 1) ≡ 1
 second_number = ap num (second_of_two 1 1) ∙ num_clear 1 (omega arith)
 
-pub twice_removed : (remove_answer (remove_plan twice 1) ≡ Done) × (removed_again twice 1 ≡ Done)
+pub twice_removed : (remove_answer (remove_plan twice 1) ≡ Ok tt) × (removed_again twice 1 ≡ Ok tt)
 twice_removed =
     let some : ◌≡◌ {A = ℕ} 1 0 → ⊥ = λ q. let y : ⊥ = omega arith in y in
     let two : slots twice ≡ 2 = slots_two 1 1 in (
@@ -110,8 +108,8 @@ twice_removed =
 -- so it must be a store that passes the check
 pub any_store_shut_out : RemovedOnce RightSize → ⊥
 any_store_shut_out claim =
-    let e : removed_again twice 1 ≡ Refused NoSheet = claim twice (bytes_two 1 1) twice_right_size 1 twice_removed.0 in
-    let d : removed_again twice 1 ≡ Done = twice_removed.1 in
+    let e : removed_again twice 1 ≡ Err NoSheet = claim twice (bytes_two 1 1) twice_right_size 1 twice_removed.0 in
+    let d : removed_again twice 1 ≡ Ok tt = twice_removed.1 in
     let z : ◌≡◌ {A = ℕ} 0 1 = cc in
     let y : ⊥ = omega arith in
     y

@@ -9,6 +9,7 @@ use native.Mathlib.Omega.{arith}
 use borrow.Author.Tests.{eqb-false, ne_eqb}
 use lib.Dec.{eqb, ltb}
 use lib.ListN.{length}
+use Rattle.std.specs.Prelude.{Ok}
 use Rattle.block.specs.Bytes.{Bytes}
 use Rattle.block.proofs.RowLaws.{bytes-row}
 use Rattle.numbers.specs.declared.Refusal.TheVariants.{SheetZero, TextLength, NoSheet, OtherRevision, LastRevision, NoFreeSlot, SheetPresent, BufferLength}
@@ -19,7 +20,6 @@ use Rattle.slots.proofs.FindLaws.{find_has}
 use Rattle.slots.proofs.SlotLaws.{length-slot}
 use Rattle.sheets.specs.Text.{text_of}
 use Rattle.sheets.proofs.TextLaws.{length-text_of}
-use Rattle.plans.specs.declared.Plan.TheVariants.{At}
 use Rattle.plans.specs.Plans.{guard, bad_keys, bad_text, absent, read_from, add_from, revise_from, read_plan, add_plan, revise_plan, remove_plan}
 use Rattle.plans.proofs.PlanLaws.{past, there, opened_no, remove_sized, read_sound, revise_sound, add_rungs, remove_rungs}
 use Rattle.claims.specs.Plain.{Place, nothing, holding, revision_of, text_in, at, absent_in, find_in, read_in, add_in, revise_in, remove_in}
@@ -57,7 +57,7 @@ module _ (o w s : List ℕ) (keys : bad_keys o w ≡ false) (bo : Bytes o) (bw :
   remove_plain n =
       remove_sized s n g.size
       ∙ remove_rungs (slots s) (slot s) n
-      ∙ (λ i. guard (eqb n 0) SheetZero (guard (absent_plain n i) NoSheet (At (found_plain n i))))
+      ∙ (λ i. guard (eqb n 0) SheetZero (guard (absent_plain n i) NoSheet (Ok (found_plain n i))))
 
   pub add_plain : (n : ℕ) (t : List ℕ) → add_plan o w s n t ≡ add_in (plain o w s) n t
   unfolding add_in
@@ -66,7 +66,7 @@ module _ (o w s : List ℕ) (keys : bad_keys o w ≡ false) (bo : Bytes o) (bw :
       ∙ add_rungs (slots s) (slot s) n (length t)
       ∙ (λ i.
       guard (eqb n 0) SheetZero
-      (guard (bad_text t) TextLength (guard (not (absent_plain n i)) SheetPresent (guard (absent_plain 0 i) NoFreeSlot (At (found_plain 0 i))))))
+      (guard (bad_text t) TextLength (guard (not (absent_plain n i)) SheetPresent (guard (absent_plain 0 i) NoFreeSlot (Ok (found_plain 0 i))))))
 
   -- the slot found for a number that is in the store: its text and its revision are those of its place
   module _ (n : ℕ) (z : eqb n 0 ≡ false) (a : absent (slots s) (slot s) n ≡ false) where
@@ -89,10 +89,10 @@ module _ (o w s : List ℕ) (keys : bad_keys o w ≡ false) (bo : Bytes o) (bw :
       ∙ read_sound (slots s) (slot s) g.each o w long n b
       ∙ past (eqb n 0) SheetZero _ _
       (λ z. past (absent (slots s) (slot s) n) NoSheet _ _
-      (λ a. ap (λ (j : ℕ). guard (ltb b j) BufferLength (At (find s n))) (same_length n z a)))
+      (λ a. ap (λ (j : ℕ). guard (ltb b j) BufferLength (Ok (find s n))) (same_length n z a)))
       ∙ (λ i.
       guard (eqb n 0) SheetZero
-      (guard (absent_plain n i) NoSheet (guard (ltb b (length (text_in (at (plain o w s) (found_plain n i))))) BufferLength (At (found_plain n i)))))
+      (guard (absent_plain n i) NoSheet (guard (ltb b (length (text_in (at (plain o w s) (found_plain n i))))) BufferLength (Ok (found_plain n i)))))
 
   pub revise_plain : (n v : ℕ) (t : List ℕ) → revise_plan o w s n v t ≡ revise_in (plain o w s) n v t
   unfolding revise_in
@@ -102,10 +102,10 @@ module _ (o w s : List ℕ) (keys : bad_keys o w ≡ false) (bo : Bytes o) (bw :
       ∙ past (eqb n 0) SheetZero _ _
       (λ z. past (bad_text t) TextLength _ _
       (λ y. past (absent (slots s) (slot s) n) NoSheet _ _
-      (λ a. ap (λ (r : ℕ). guard (not (eqb v r)) OtherRevision (guard (eqb r greatest_revision) LastRevision (At (find s n)))) (same_revision n z a))))
+      (λ a. ap (λ (r : ℕ). guard (not (eqb v r)) OtherRevision (guard (eqb r greatest_revision) LastRevision (Ok (find s n)))) (same_revision n z a))))
       ∙ (λ i.
       guard (eqb n 0) SheetZero
       (guard (bad_text t) TextLength
       (guard (absent_plain n i) NoSheet
       (guard (not (eqb v (revision_of (at (plain o w s) (found_plain n i))))) OtherRevision
-      (guard (eqb (revision_of (at (plain o w s) (found_plain n i))) greatest_revision) LastRevision (At (found_plain n i)))))))
+      (guard (eqb (revision_of (at (plain o w s) (found_plain n i))) greatest_revision) LastRevision (Ok (found_plain n i)))))))

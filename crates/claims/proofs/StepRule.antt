@@ -3,33 +3,26 @@
 use mathlib.Core.Path.{◌≡◌, refl, sym, ◌∙◌}
 use mathlib.Core.List.{List}
 use Prim.Native.Nat.{ℕ}
+use Rattle.std.specs.Prelude.{Ok, Err}
 use Rattle.block.specs.Bytes.{Bytes}
 use Rattle.slots.specs.Slots.{slot}
 use Rattle.slots.proofs.PutLaws.{slot_other}
-use Rattle.plans.specs.declared.Plan.{Plan}
-use Rattle.plans.specs.declared.Plan.TheVariants.{Refuse, At}
-use Rattle.plans.specs.Plans.{step_plan}
+use Rattle.plans.specs.Plans.{step_plan, Plan}
 use Rattle.plans.proofs.PlanLaws.{step_says}
-use Rattle.store.specs.declared.Outcome.{Outcome}
-use Rattle.store.specs.declared.Outcome.TheVariants.{Done, Free, Damaged, Already, Converted}
 use Rattle.store.specs.Calls.{outcome_at, converted_at, step_store}
 use Rattle.claims.specs.Machine.{store_step}
 use Rattle.claims.specs.Claims.{KeepsOthers}
-use Rattle.claims.proofs.Effects.{rekeyed, convert_says}
+use Rattle.claims.proofs.Effects.{rekeyed, convert_says, left_by_step}
 
 module _ (o w : List ℕ) (bo : Bytes o) (bw : Bytes w) (s : List ℕ) (bs : Bytes s) (j : ℕ) where
-  other_kept : (k : ℕ) → (j ≡ k → ⊥) → (x : Outcome) → outcome_at s k ≡ x → slot (converted_at o w s k x) j ≡ slot s j
-  other_kept k z Done e = refl
-  other_kept k z Free e = refl
-  other_kept k z Damaged e = refl
-  other_kept k z Already e = refl
-  other_kept k z Converted e =
-      let c = convert_says o w s k bo bw bs e in
-      slot_other s k c.within (rekeyed o w s k) c.whole j z
+  other_kept : (k : ℕ) → (j ≡ k → ⊥) → slot (converted_at o w s k (outcome_at s k)) j ≡ slot s j
+  other_kept k z =
+      left_by_step o w s k (λ x. slot x j ≡ slot s j) refl
+      (λ e. let c = convert_says o w s k bo bw bs e in slot_other s k c.within (rekeyed o w s k) c.whole j z)
 
   by_plan : (k : ℕ) → (j ≡ k → ⊥) → (p : Plan) → step_plan o w s k ≡ p → slot (step_store o w s p) j ≡ slot s j
-  by_plan k z (Refuse x) e = refl
-  by_plan k z (At i) e = other_kept i (λ r. z (r ∙ sym (step_says o w s k i e))) (outcome_at s i) refl
+  by_plan k z (Err x) e = refl
+  by_plan k z (Ok i) e = other_kept i (λ r. z (r ∙ sym (step_says o w s k i e)))
 
 pub keeps_others : (o w : List ℕ) → Bytes o → Bytes w → KeepsOthers (store_step o w)
 keeps_others o w bo bw s bs k j z = by_plan o w bo bw s bs j k z (step_plan o w s k) refl

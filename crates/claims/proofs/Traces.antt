@@ -6,18 +6,15 @@ use mathlib.Core.Bool.{false}
 use mathlib.Core.List.{List, [], ◌∷◌, ◌++◌}
 use Prim.Native.Nat.{ℕ, ◌+◌, ◌<◌}
 use lib.ListN.{length, drop, length-set}
+use Rattle.std.specs.Prelude.{Ok, Err}
 use Rattle.block.specs.Bytes.{Bytes}
 use Rattle.records.specs.Record.{num, rev, len}
 use Rattle.slots.specs.Slots.{slots, slot}
 use Rattle.sheets.specs.Text.{text_of}
-use Rattle.plans.specs.declared.Plan.{Plan}
-use Rattle.plans.specs.declared.Plan.TheVariants.{Refuse, At}
-use Rattle.plans.specs.Plans.{bad_keys, read_plan, add_plan, revise_plan, remove_plan, step_plan}
+use Rattle.plans.specs.Plans.{bad_keys, read_plan, add_plan, revise_plan, remove_plan, step_plan, Plan}
 use Rattle.plans.proofs.PlanLaws.{used, read_says, revise_says}
-use Rattle.store.specs.declared.Text.TheVariants.{Read}
-use Rattle.store.specs.declared.Stored.TheVariants.{Revision}
 use Rattle.store.specs.Calls.{read_answer, read_buffer, add_answer, add_store, revise_answer, remove_answer}
-use Rattle.claims.specs.Plain.{Place, nothing, holding, revision_of, text_in, at, add_in, revise_in, remove_in}
+use Rattle.claims.specs.Plain.{Place, nothing, holding, revision_of, text_in, at, add_in, revise_in, remove_in, a_text}
 use Rattle.claims.specs.Plain.{read_text, read_into, added, after_add, revised, after_revise, gone, after_remove}
 use Rattle.claims.specs.View.{plain}
 use Rattle.store.specs.Conversions.{refuses, gives}
@@ -31,16 +28,16 @@ use Rattle.claims.proofs.Effects.{effect_remove, effect_add, effect_revise, effe
 -- ---- the list keeps its length
 
 length_add : (l : List Place) (n : ℕ) (t : List ℕ) (p : Plan) → length (after_add l n t p) ≡ length l
-length_add l n t (Refuse x) = refl
-length_add l n t (At k) = length-set l k (holding n 1 t)
+length_add l n t (Err x) = refl
+length_add l n t (Ok k) = length-set l k (holding n 1 t)
 
 length_revise : (l : List Place) (n : ℕ) (t : List ℕ) (p : Plan) → length (after_revise l n t p) ≡ length l
-length_revise l n t (Refuse x) = refl
-length_revise l n t (At k) = length-set l k (holding n (revision_of (at l k) + 1) t)
+length_revise l n t (Err x) = refl
+length_revise l n t (Ok k) = length-set l k (holding n (revision_of (at l k) + 1) t)
 
 length_remove : (l : List Place) (p : Plan) → length (after_remove l p) ≡ length l
-length_remove l (Refuse x) = refl
-length_remove l (At k) = length-set l k nothing
+length_remove l (Err x) = refl
+length_remove l (Ok k) = length-set l k nothing
 
 length-list_final : (es : List Event) (l : List Place) → length (list_final es l) ≡ length l
 length-list_final [] l = refl
@@ -57,29 +54,30 @@ module _ (o w : List ℕ) (keys : bad_keys o w ≡ false) (bo : Bytes o) (bw : B
     -- the text and the revision of the slot found are those of its place
     read_same : (n : ℕ) (b : List ℕ) (p : Plan) → read_plan o w s n (length b) ≡ p
         → (read_answer s p ≡ read_text (plain o w s) p) × (read_buffer o w s b p ≡ read_into (plain o w s) b p)
-    read_same n b (Refuse x) e = (refl, refl)
-    read_same n b (At k) e =
+    read_same n b (Err x) e = (refl, refl)
+    read_same n b (Ok k) e =
         let c = read_says o w s n (length b) k e in
         let r : List ℕ = slot s k in
         let q : at (plain o w s) k ≡ holding (num r) (rev r) (text_of o w r) = held o w s keys bo bw g k c.at.within (used c.at) in
         let m : length (text_of o w r) ≡ len r = long o w s keys bo bw g k c.at.within (used c.at) in (
-          ap (λ (j : ℕ). Read j (rev r)) (sym m) ∙ ap (λ (x : Place). Read (length (text_in x)) (revision_of x)) (sym q),
+          ap (λ (j : ℕ). a_text j (rev r)) (sym m) ∙ ap (λ (x : Place). a_text (length (text_in x)) (revision_of x)) (sym q),
           ap (λ (j : ℕ). text_of o w r ++ drop j b) (sym m) ∙ ap (λ (x : Place). text_in x ++ drop (length (text_in x)) b) (sym q),
         )
 
     add_same : (p : Plan) → add_answer p ≡ added p
-    add_same (Refuse x) = refl
-    add_same (At k) = refl
+    add_same (Err x) = refl
+    add_same (Ok k) = refl
 
     remove_same : (p : Plan) → remove_answer p ≡ gone p
-    remove_same (Refuse x) = refl
-    remove_same (At k) = refl
+    remove_same (Err x) = refl
+    remove_same (Ok k) = refl
 
     revise_same : (n v : ℕ) (t : List ℕ) (p : Plan) → revise_plan o w s n v t ≡ p → revise_answer s p ≡ revised (plain o w s) p
-    revise_same n v t (Refuse x) e = refl
-    revise_same n v t (At k) e =
+    revise_same n v t (Err x) e = refl
+    revise_same n v t (Ok k) e =
         let a = revise_says o w s n v t k e in
-        ap (λ (j : ℕ). Revision (j + 1)) (sym (ap revision_of (held o w s keys bo bw g k a.at.within (used a.at))))
+        let q : rev (slot s k) ≡ revision_of (at (plain o w s) k) = sym (ap revision_of (held o w s keys bo bw g k a.at.within (used a.at))) in
+        λ i. Ok (q i + 1)
 
   -- an add, by itself or as a conversion
   answered_add : (n : ℕ) (t s : List ℕ) → SoundStore s → of_stored (add_answer (add_plan o w s n t)) ≡ of_stored (added (add_in (plain o w s) n t))

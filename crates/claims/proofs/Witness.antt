@@ -10,6 +10,7 @@ use native.Mathlib.Omega.{arith}
 use borrow.Author.Tests.{ne_eqb}
 use lib.Dec.{lit<}
 use lib.ListN.{replicate}
+use Rattle.std.specs.Prelude.{Ok, Err}
 use Rattle.block.specs.Bytes.{Bytes}
 use Rattle.block.proofs.BytesLaws.{bytes_zeros, bytes_cons}
 use Rattle.numbers.specs.declared.Refusal.TheVariants.{KeyLength, OtherRevision}
@@ -20,11 +21,8 @@ use Rattle.checking.specs.Check.{check_answer}
 use Rattle.sheets.specs.Text.{text_of}
 use Rattle.sheets.proofs.TextLaws.{text_clear}
 use Rattle.plans.specs.Plans.{guard, bad_length}
-use Rattle.store.specs.declared.Text.TheVariants.{Read}
-use Rattle.store.specs.declared.Stored.TheVariants.{Revision, Refused}
-use Rattle.store.specs.declared.Removed.TheVariants.{Done}
 use Rattle.store.specs.Conversions.{refuses, gives}
-use Rattle.claims.specs.Plain.{Place, nothing, holding, find_in, read_in, add_in, revise_in, remove_in}
+use Rattle.claims.specs.Plain.{Place, nothing, holding, find_in, read_in, add_in, revise_in, remove_in, a_text}
 use Rattle.claims.specs.View.{place_of, places_from, plain}
 use Rattle.claims.specs.Machine.{Event, reading, adding, converting, revising, removing, stepping, Allowed, AllAllowed}
 use Rattle.claims.specs.Machine.{Answer, of_read, of_stored, of_removed, of_step}
@@ -141,17 +139,17 @@ two_sheets =
 
 -- a removal, an add, a read, a revision and a conversion are each accepted
 pub each_accepted : answers short long events start
-    ≡ of_removed Done
-    ∷ of_stored (Revision 1)
+    ≡ of_removed (Ok tt)
+    ∷ of_stored (Ok 1)
     ∷ of_step
-    ∷ of_read (Read text_most 1) text
-    ∷ of_stored (Revision 2)
-    ∷ of_stored (Refused OtherRevision)
-    ∷ of_stored (Refused OtherRevision)
+    ∷ of_read (a_text text_most 1) text
+    ∷ of_stored (Ok 2)
+    ∷ of_stored (Err OtherRevision)
+    ∷ of_stored (Err OtherRevision)
     ∷ of_step
-    ∷ of_removed Done
-    ∷ of_stored (Refused KeyLength)
-    ∷ of_stored (Revision 1)
+    ∷ of_removed (Ok tt)
+    ∷ of_stored (Err KeyLength)
+    ∷ of_stored (Ok 1)
     ∷ []
 unfolding read_in add_in revise_in remove_in find_in scan guard bad_length
 each_accepted = answers_as_a_list short long key_48 key_64 start sound_two.bytes two_pass events allowed ∙ ap (list_answers events) two_sheets
@@ -167,7 +165,7 @@ pub two_slots_after : slots (final short long events start).store ≡ 2
 two_slots_after = as_many_slots short long key_48 key_64 start sound_two.bytes two_pass events allowed ∙ two_slots
 
 -- the second of the two revisions is not accepted
-pub retry_refused : (r : ℕ) → answer_at (answers short long events start) 5 ≡ of_stored (Revision r) → ⊥
+pub retry_refused : (r : ℕ) → answer_at (answers short long events start) 5 ≡ of_stored (Ok r) → ⊥
 retry_refused r e =
     at_most_one short long key_48 key_64 start sound_two.bytes two_pass events allowed greatest 1 4 5 (omega arith) shorter shorter refl refl
     (λ k h g d. let y : ⊥ = omega arith in y) 2 r (ap (λ (l : List Answer). answer_at l 4) each_accepted) e
@@ -181,7 +179,7 @@ no_change : (n c : ℕ) (e : Event) (a : Answer) → Changed n e a → e ≡ ste
 no_change n c e a (revised_anew v t r) q = let z : ◌≡◌ {A = ℕ} 0 1 = cc in let y : ⊥ = omega arith in y
 no_change n c e a taken_out q = let z : ◌≡◌ {A = ℕ} 0 1 = cc in let y : ⊥ = omega arith in y
 
-pub added_is_read : answer_at (answers short long events start) 3 ≡ of_read (Read text_most 1) text
+pub added_is_read : answer_at (answers short long events start) 3 ≡ of_read (a_text text_most 1) text
 added_is_read =
     read_back short long key_48 key_64 start sound_two.bytes two_pass events allowed greatest text 1 1 3
     (omega arith) accepted step_only text refl (omega arith)

@@ -1,8 +1,7 @@
 -- 02, conversions: the events with an add in the place of each conversion that comes to a text, and those that are refused before that left out; and the
 -- answers of these with the refusals put back.
 -- Assumes nothing.
-use Rattle.std.specs.Prelude.{List, [], ◌∷◌}
-use Rattle.store.specs.declared.Stored.TheVariants.{Refused}
+use Rattle.std.specs.Prelude.{List, [], ◌∷◌, Err}
 use Rattle.store.specs.Conversions.{refuses, gives}
 use Rattle.claims.specs.Machine.{Event, reading, adding, converting, revising, removing, stepping, Answer, of_stored}
 
@@ -25,7 +24,7 @@ abbrev pub with_refused : List Event → List Answer → List Answer
 with_refused [] l = []
 with_refused (reading n b ∷ es) l = next (with_refused es) l
 with_refused (adding n t ∷ es) l = next (with_refused es) l
-with_refused (converting n (refuses x) ∷ es) l = of_stored (Refused x) ∷ with_refused es l
+with_refused (converting n (refuses x) ∷ es) l = of_stored (Err x) ∷ with_refused es l
 with_refused (converting n (gives t) ∷ es) l = next (with_refused es) l
 with_refused (revising n v t ∷ es) l = next (with_refused es) l
 with_refused (removing n ∷ es) l = next (with_refused es) l

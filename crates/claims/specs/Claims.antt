@@ -1,15 +1,13 @@
 -- Demand 3: what its sentences speak of, and what is claimed of a step, whatever it does; and the two idle steps that 01 wants shut out. Also what is
 -- claimed of a removal made again.
 -- Assumes nothing.
-use Rattle.std.specs.Prelude.{◌≡◌, true, false, cond, ◌||◌, List, [], ◌∷◌, ◌++◌, ℕ, zero, suc, ◌≤◌, ◌<◌, eqb, length, get_or}
+use Rattle.std.specs.Prelude.{◌≡◌, true, false, cond, ◌||◌, List, [], ◌∷◌, ◌++◌, ℕ, zero, suc, ◌≤◌, ◌<◌, eqb, length, get_or, Ok, Err}
 use Rattle.block.specs.Bytes.{Bytes}
 use Rattle.numbers.specs.declared.Refusal.TheVariants.{NoSheet}
 use Rattle.slots.specs.Slots.{slots, slot, bad_size}
 use Rattle.checking.specs.Check.{check_answer, counts, marked}
 use Rattle.plans.specs.Plans.{remove_plan}
-use Rattle.store.specs.declared.Removed.{Removed}
-use Rattle.store.specs.declared.Removed.TheVariants.{Done, Refused}
-use Rattle.store.specs.Calls.{remove_answer, remove_store}
+use Rattle.store.specs.Calls.{remove_answer, remove_store, Removed}
 use Rattle.claims.specs.Machine.{Event, reading, adding, converting, revising, removing, stepping, AllAllowed, Answer, of_removed, of_step}
 use Rattle.claims.specs.Machine.{State, Step, store_step, final_by, answers}
 
@@ -75,7 +73,7 @@ answer_at l i = get_or l i of_step
 
 -- an accepted removal of sheet n stands at position k
 abbrev pub RemovedAt : (o w : List ℕ) (es : List Event) (st : State) (n k : ℕ) → Type 0
-RemovedAt o w es st n k = (event_at es k ≡ removing n) × (answer_at (answers o w es st) k ≡ of_removed Done)
+RemovedAt o w es st n k = (event_at es k ≡ removing n) × (answer_at (answers o w es st) k ≡ of_removed (Ok tt))
 
 -- ---- a removal made again, while nothing came between
 
@@ -85,7 +83,7 @@ removed_again s n = remove_answer (remove_plan (remove_store s (remove_plan s n)
 
 -- from every store of the kind, a removal that was accepted answers 7 when it is made again
 abbrev pub RemovedOnce : (List ℕ → Type 0) → Type 0
-RemovedOnce Kind = (s : List ℕ) → Bytes s → Kind s → (n : ℕ) → remove_answer (remove_plan s n) ≡ Done → removed_again s n ≡ Refused NoSheet
+RemovedOnce Kind = (s : List ℕ) → Bytes s → Kind s → (n : ℕ) → remove_answer (remove_plan s n) ≡ Ok tt → removed_again s n ≡ Err NoSheet
 
 -- any store that a removal works on: not refused with 4
 abbrev pub RightSize : List ℕ → Type 0

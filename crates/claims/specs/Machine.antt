@@ -4,10 +4,7 @@
 use Rattle.std.specs.Prelude.{cond, List, [], ◌∷◌, ℕ, ◌<◌, eqb, length}
 use Rattle.block.specs.Bytes.{Bytes}
 use Rattle.plans.specs.Plans.{read_plan, add_plan, revise_plan, remove_plan, step_plan}
-use Rattle.store.specs.declared.Text.{Text}
-use Rattle.store.specs.declared.Stored.{Stored}
-use Rattle.store.specs.declared.Removed.{Removed}
-use Rattle.store.specs.Calls.{read_answer, read_buffer, add_answer, add_store, revise_answer, revise_store, remove_answer, remove_store}
+use Rattle.store.specs.Calls.{read_answer, read_buffer, add_answer, add_store, revise_answer, revise_store, remove_answer, remove_store, Read, Stored, Removed}
 use Rattle.store.specs.Calls.{step_answer, place_after, step_store}
 use Rattle.store.specs.Conversions.{Source, refuses, gives, convert_answer, convert_store}
 use Rattle.claims.specs.Plain.{Place, read_in, add_in, revise_in, remove_in, read_text, read_into, added, after_add, converted, after_converting}
@@ -39,7 +36,7 @@ AllAllowed (e ∷ es) = Allowed e × AllAllowed es
 
 -- what operators get: of a read also the buffer afterwards; a step answers them nothing
 pub data Answer : Type 0 where
-  of_read : Text → List ℕ → Answer
+  of_read : Read → List ℕ → Answer
   of_stored : Stored → Answer
   of_removed : Removed → Answer
   of_step : Answer

@@ -1,8 +1,6 @@
 -- Demand 3, for operators: what they ask and are told, the job's steps left out; and a text that was accepted, and what would change it.
 -- Assumes nothing.
-use Rattle.std.specs.Prelude.{List, [], ◌∷◌, ℕ, ◌<◌}
-use Rattle.store.specs.declared.Stored.TheVariants.{Revision}
-use Rattle.store.specs.declared.Removed.TheVariants.{Done}
+use Rattle.std.specs.Prelude.{List, [], ◌∷◌, ℕ, ◌<◌, Ok}
 use Rattle.store.specs.Conversions.{gives}
 use Rattle.claims.specs.Machine.{Event, reading, adding, converting, revising, removing, stepping, Answer, of_read, of_stored, of_removed, of_step}
 use Rattle.claims.specs.Claims.{event_at, answer_at}
@@ -27,14 +25,14 @@ told (of_step ∷ l) = told l
 
 -- an accepted add, conversion or revision of sheet n with text t, which answered revision r
 pub data Written (n : ℕ) (t : List ℕ) (r : ℕ) : Event → Answer → Type 0 where
-  by_add : Written n t r (adding n t) (of_stored (Revision r))
-  by_conversion : Written n t r (converting n (gives t)) (of_stored (Revision r))
-  by_revision : (v : ℕ) → Written n t r (revising n v t) (of_stored (Revision r))
+  by_add : Written n t r (adding n t) (of_stored (Ok r))
+  by_conversion : Written n t r (converting n (gives t)) (of_stored (Ok r))
+  by_revision : (v : ℕ) → Written n t r (revising n v t) (of_stored (Ok r))
 
 -- an accepted revision or removal of sheet n
 pub data Changed (n : ℕ) : Event → Answer → Type 0 where
-  revised_anew : (v : ℕ) (t : List ℕ) (r : ℕ) → Changed n (revising n v t) (of_stored (Revision r))
-  taken_out : Changed n (removing n) (of_removed Done)
+  revised_anew : (v : ℕ) (t : List ℕ) (r : ℕ) → Changed n (revising n v t) (of_stored (Ok r))
+  taken_out : Changed n (removing n) (of_removed (Ok tt))
 
 -- no event between positions i and j, with the answers a, is one
 abbrev pub Unchanged : (n : ℕ) (es : List Event) (a : List Answer) (i j : ℕ) → Type 0

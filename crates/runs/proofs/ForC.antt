@@ -6,11 +6,10 @@ use mathlib.Core.List.{List, [], ◌∷◌, ◌++◌, map}
 use Prim.Native.Nat.{ℕ, zero, suc, ◌≤◌, ◌<◌}
 use native.Mathlib.Omega.{arith}
 use lib.ListN.{get_or-map}
+use Rattle.std.specs.Prelude.{Ok, Err}
 use Rattle.block.specs.Bytes.{Bytes}
 use Rattle.numbers.specs.Numbers.{paper, some_number}
 use Rattle.slots.specs.Slots.{slots}
-use Rattle.plans.specs.declared.Plan.{Plan}
-use Rattle.store.specs.declared.Stored.TheVariants.{Revision, Refused}
 use Rattle.store.specs.Calls.{step_answer}
 use Rattle.claims.specs.View.{plain}
 use Rattle.claims.specs.Machine.{Event, removing, AllAllowed, Answer, of_read, of_stored, of_removed, of_step}
@@ -24,13 +23,14 @@ use Rattle.runs.specs.Calls.{call_at, returned_at, event, events, told, as_retur
 use Rattle.runs.specs.Runs.{Run, Six, Checks, ChecksOut}
 use Rattle.runs.proofs.OneRun.{given, givens, run_is}
 use Rattle.runs.proofs.TheCheck.{checks_pass, passes_checks, none_left_counted}
+use Rattle.plans.specs.Plans.{Plan}
 
 -- ---- from what a call gave back to the answer, and to the call from its event
 
-pub is_accepted : (a : Answer) (x r : ℕ) → revision 0 r ≡ as_returned 0 x a → a ≡ of_stored (Revision r)
+pub is_accepted : (a : Answer) (x r : ℕ) → revision 0 r ≡ as_returned 0 x a → a ≡ of_stored (Ok r)
 is_accepted (of_read y b) x r e = let z : ◌≡◌ {A = ℕ} 0 1 = cc in let v : ⊥ = omega arith in absurd v
-is_accepted (of_stored (Revision u)) x r e = cc
-is_accepted (of_stored (Refused y)) x r e = let z : 0 ≡ paper y = cc in let v : ⊥ = omega (arith, some_number y) in absurd v
+is_accepted (of_stored (Ok u)) x r e = cc
+is_accepted (of_stored (Err y)) x r e = let z : 0 ≡ paper y = cc in let v : ⊥ = omega (arith, some_number y) in absurd v
 is_accepted (of_removed y) x r e = let z : ◌≡◌ {A = ℕ} 0 1 = cc in let v : ⊥ = omega arith in absurd v
 is_accepted of_step x r e = let z : ◌≡◌ {A = ℕ} 0 1 = cc in let v : ⊥ = omega arith in absurd v
 
@@ -115,7 +115,7 @@ module _ (o w : List ℕ) (ko : Key o) (kw : Key w) where
       returned_at_lem k = sym (get_or-map told rs k (outcome 0 0)) ∙ ap (λ (l : List Returned). returned_at l k) as_answered ∙ position o w cs st k
 
       accepted : (k n v : ℕ) (t : List ℕ) (x r : ℕ) → call_at cs k ≡ revises n v t x → returned_at rs k ≡ revision 0 r
-          → answer_at (answers o w (events cs) st) k ≡ of_stored (Revision r)
+          → answer_at (answers o w (events cs) st) k ≡ of_stored (Ok r)
       accepted k n v t x r c e =
           let a : Answer = answer_at (answers o w (events cs) st) k in
           is_accepted a x r (sym (ap told e) ∙ returned_at_lem k ∙ ap (λ (y : Call). read_off y a) c)

@@ -6,10 +6,9 @@ use mathlib.Core.List.{List, [], ◌∷◌, ◌++◌, map}
 use Prim.Native.Nat.{ℕ, ◌≤◌, ◌<◌}
 use native.Mathlib.Omega.{arith}
 use lib.ListN.{length, drop}
+use Rattle.std.specs.Prelude.{Ok}
 use Rattle.block.specs.Bytes.{Bytes}
-use Rattle.store.specs.declared.Text.TheVariants.{Read}
-use Rattle.store.specs.declared.Stored.TheVariants.{Revision}
-use Rattle.claims.specs.Plain.{Place}
+use Rattle.claims.specs.Plain.{Place, a_text}
 use Rattle.claims.specs.View.{plain}
 use Rattle.takeover.specs.Sources.{xts_source}
 use Rattle.claims.specs.Machine.{Event, adding, converting, revising, removing, AllAllowed, Answer, of_read, of_stored}
@@ -121,7 +120,7 @@ written_so n t r c x a q (by_revision v y) = rw (is_accepted a y r q) (list.by_r
 changed_so : (n : ℕ) (c : Call) (x : Returned) (e : Event) (a : Answer) → e ≡ event c → told x ≡ read_off c a → list.Changed n e a → Changed n c x
 changed_so n c x e a p q (list.revised_anew v t r) =
     let k = is_revision c n v t (sym p) in
-    let y : x ≡ revision 0 r = told_revision x 0 r (q ∙ ap (λ (d : Call). read_off d (of_stored (Revision r))) k.1) in
+    let y : x ≡ revision 0 r = told_revision x 0 r (q ∙ ap (λ (d : Call). read_off d (of_stored (Ok r))) k.1) in
     rw (k.1, y) (revised_anew v t k.0 r)
 changed_so n c x e a p q list.taken_out =
     let k : c ≡ removes n = is_removal c n (sym p) in
@@ -152,6 +151,6 @@ module _ (o w : List ℕ) (ko : Key o) (kw : Key w) (st : State) (bs : Bytes st.
           u k hi hj
           (changed_so n (call_at cs k) (returned_at rs k) (event_at (events cs) k) (answer_at (answers o w (events cs) st) k) (event_at_lem cs k) (at k) d)
 
-      answered : answer_at (answers o w (events cs) st) j ≡ of_read (Read (length t) r) (t ++ drop (length t) b)
+      answered : answer_at (answers o w (events cs) st) j ≡ of_read (a_text (length t) r) (t ++ drop (length t) b)
       answered =
           claims.read_back o w ko kw st bs (checks_pass st.store ok) (events cs) h n t r i j g written unchanged b (event_at_lem cs j ∙ ap event c) f

@@ -6,9 +6,10 @@ use mathlib.Core.List.{List}
 use Prim.Native.Nat.{ℕ, zero, suc, ◌+◌, ◌<◌}
 use native.Mathlib.Omega.{arith}
 use lib.Dec.{ltb}
+use Rattle.std.specs.Prelude.{Ok, Err}
 use Rattle.numbers.specs.declared.Refusal.TheVariants.{StoreLength}
 use Rattle.slots.specs.Slots.{slots, slot, tally, bad_size}
-use Rattle.checking.specs.declared.Checked.TheVariants.{Fault, Refused}
+use Rattle.checking.specs.declared.Checked.TheVariants.{Fault}
 use Rattle.checking.specs.Check.{first_fault, counted, marked, counts, check_answer}
 use Rattle.claims.specs.Claims.{Passes, NoneLeft}
 use Rattle.answers.specs.Sheets.{check_number, clear_or, old_or}
@@ -18,8 +19,8 @@ pub checks_pass : (s : List ℕ) → ChecksOut s → Passes s
 unfolding check_answer
 checks_pass s e = by_tests (bad_size s) (ltb (first_fault s) (slots s)) e.2.0
   where
-    by_tests : (x y : Bool) → 0 ≡ check_number (cond x (Refused StoreLength) (cond y (Fault (first_fault s)) (counts s)))
-        → cond x (Refused StoreLength) (cond y (Fault (first_fault s)) (counts s)) ≡ counts s
+    by_tests : (x y : Bool) → 0 ≡ check_number (cond x (Err StoreLength) (cond y (Ok (Fault (first_fault s))) (counts s)))
+        → cond x (Err StoreLength) (cond y (Ok (Fault (first_fault s))) (counts s)) ≡ counts s
     by_tests true y q = let z : ⊥ = omega arith in absurd z
     by_tests false true q = let z : ⊥ = omega arith in absurd z
     by_tests false false q = refl
