@@ -1,36 +1,29 @@
-// What the store's calls answer, as numbers by value: 01's number, and for each pointer of the call what is to stand behind it. The calls for C
-// then only write them there.
+// What the store's calls answer, by value: 01's number, and for each pointer of the call what is to stand behind it. The calls for C then only write
+// it there.
 #![tactic(auto)]
 
 ghost use Rattle.std.specs.Prelude.{◌≡◌};
 ghost use Rattle.answers.specs.Sheets.{CheckedForC, ReadForC, AddForC, AddXtsForC, ReviseForC, RemoveForC, StepForC};
-ghost use Rattle.answers.specs.Sheets.{outcome_number, stored_number, revision_or};
+ghost use Rattle.answers.specs.Sheets.{number_of, value_or};
 
-use checking::Checked;
-use store::{Outcome, Removed, Stepped, Stored, Text};
+use checking::{Checked, Counts};
+use numbers::{Refusal, answer_number};
+use sheets::Keys;
+use store::Text;
 
+// A number and what is to stand behind the pointers is the form of the C interface: every call of it returns the one and writes the other.
+#[derive(Clone, Copy)]
+pub struct Values<T> {
+    pub number: u32,
+    pub behind: T,
+}
+
+// The check's fault and counts are no one value: a fault leaves the counts as they were, and the counts the fault.
 #[derive(Clone, Copy)]
 pub struct CheckValues {
     pub number: u32,
     pub fault: u32,
-    pub used: u32,
-    pub free: u32,
-    pub clear: u32,
-    pub old: u32,
-    pub new: u32,
-}
-
-#[derive(Clone, Copy)]
-pub struct ReadValues {
-    pub number: u32,
-    pub length: u32,
-    pub revision: u32,
-}
-
-#[derive(Clone, Copy)]
-pub struct StoreValues {
-    pub number: u32,
-    pub revision: u32,
+    pub counts: Counts,
 }
 
 #[derive(Clone, Copy)]
@@ -40,177 +33,108 @@ pub struct StepValues {
     pub outcome: u32,
 }
 
-// The outcomes in 01's order.
-fn outcome_number(x: Outcome) -> u32
-    ensures { result ≡ outcome_number x }
-{
-    match x {
-        Outcome::Done => 0,
-        Outcome::Free => 1,
-        Outcome::Damaged => 2,
-        Outcome::Already => 3,
-        Outcome::Converted => 4,
-    }
-}
-
-pub fn check(
-    store: &[u8],
-    fault: u32,
-    used: u32,
-    free: u32,
-    clear: u32,
-    old: u32,
-    new: u32,
-) -> CheckValues
-    ensures { CheckedForC store.now fault used free clear old new result.number result.fault result.used result.free result.clear result.old
-        result.new }
-{
-    match checking::check(store) {
-        Checked::Refused(x) => CheckValues {
-            number: u32::from(x),
-            fault,
-            used,
-            free,
-            clear,
-            old,
-            new,
-        },
-        Checked::Fault(k) => CheckValues {
-            number: 256,
-            fault: k,
-            used,
-            free,
-            clear,
-            old,
-            new,
-        },
-        Checked::Counts {
-            used: u,
-            free: f,
-            clear: c,
-            old: o,
-            new: n,
-        } => CheckValues {
-            number: 0,
-            fault,
-            used: u,
-            free: f,
-            clear: c,
-            old: o,
-            new: n,
-        },
-    }
-}
-
-pub fn read(
-    old: &[u8],
-    new: &[u8],
-    store: &[u8],
-    sheet: u32,
-    text: &mut [u8],
-    l: u32,
-    v: u32,
-) -> ReadValues
-    ensures { ReadForC old.now new.now store.now sheet text.old l v result.number text.new
-        result.length result.revision }
-{
-    match store::read(old, new, store, sheet, text) {
-        Text::Refused(x) => ReadValues {
-            number: u32::from(x),
-            length: l,
-            revision: v,
-        },
-        Text::Read { length, revision } => ReadValues {
-            number: 0,
-            length,
-            revision,
-        },
-    }
-}
-
-// What add and revise answer; v stays behind the pointer if the call was refused.
-fn stored(a: Stored, v: u32) -> StoreValues
-    ensures { (result.number ≡ stored_number a) × (result.revision ≡ revision_or v a) }
+// What a call gave, or if it was refused what stood there before.
+pub fn given<T: Copy>(a: Result<T, Refusal>, before: T) -> Values<T>
+    ensures { (result.number ≡ number_of a) × (result.behind ≡ value_or before a) }
 {
     match a {
-        Stored::Refused(x) => StoreValues {
+        Ok(behind) => Values { number: 0, behind },
+        Err(x) => Values {
             number: u32::from(x),
-            revision: v,
-        },
-        Stored::Revision(revision) => StoreValues {
-            number: 0,
-            revision,
+            behind: before,
         },
     }
 }
 
-pub fn add(old: &[u8], new: &[u8], store: &mut [u8], sheet: u32, text: &[u8], v: u32) -> StoreValues
-    ensures { AddForC old.now new.now store.old sheet text.now v result.number store.new
-        result.revision }
+pub fn check(store: &[u8], fault: u32, counts: Counts) -> CheckValues
+    ensures { CheckedForC store.now fault counts.used counts.free counts.clear counts.old counts.new result.number result.fault
+        result.counts.used result.counts.free result.counts.clear result.counts.old result.counts.new }
 {
-    stored(store::add(old, new, store, sheet, text), v)
+    match checking::check(store) {
+        Err(x) => CheckValues {
+            number: u32::from(x),
+            fault,
+            counts,
+        },
+        Ok(Checked::Fault(fault)) => CheckValues {
+            number: 256,
+            fault,
+            counts,
+        },
+        Ok(Checked::Counts(counts)) => CheckValues {
+            number: 0,
+            fault,
+            counts,
+        },
+    }
+}
+
+pub fn read(keys: Keys, store: &[u8], sheet: u32, text: &mut [u8], before: Text) -> Values<Text>
+    ensures { ReadForC keys.entry.old.now keys.entry.new.now store.now sheet text.old before.length before.revision result.number text.new
+        result.behind.length result.behind.revision }
+{
+    given(store::read(keys, store, sheet, text), before)
+}
+
+pub fn add(keys: Keys, store: &mut [u8], sheet: u32, text: &[u8], before: u32) -> Values<u32>
+    ensures { AddForC keys.entry.old.now keys.entry.new.now store.old sheet text.now before result.number store.new
+        result.behind }
+{
+    given(store::add(keys, store, sheet, text), before)
 }
 
 pub fn add_xts(
     key: &[u8],
     number: u64,
     unit: &[u8],
-    old: &[u8],
-    new: &[u8],
+    keys: Keys,
     store: &mut [u8],
     sheet: u32,
-    v: u32,
-) -> StoreValues
-    ensures { AddXtsForC key.now number unit.now old.now new.now store.old sheet v
-        result.number store.new result.revision }
+    before: u32,
+) -> Values<u32>
+    ensures { AddXtsForC key.now number unit.now keys.entry.old.now keys.entry.new.now store.old sheet before
+        result.number store.new result.behind }
 {
-    stored(
-        takeover::add_xts(key, number, unit, old, new, store, sheet),
-        v,
+    given(
+        takeover::add_xts(key, number, unit, keys, store, sheet),
+        before,
     )
 }
 
 pub fn revise(
-    old: &[u8],
-    new: &[u8],
+    keys: Keys,
     store: &mut [u8],
     sheet: u32,
     seen: u32,
     text: &[u8],
-    v: u32,
-) -> StoreValues
-    ensures { ReviseForC old.now new.now store.old sheet seen text.now v result.number
-        store.new result.revision }
+    before: u32,
+) -> Values<u32>
+    ensures { ReviseForC keys.entry.old.now keys.entry.new.now store.old sheet seen text.now before result.number
+        store.new result.behind }
 {
-    stored(store::revise(old, new, store, sheet, seen, text), v)
+    given(store::revise(keys, store, sheet, seen, text), before)
 }
 
 pub fn remove(store: &mut [u8], sheet: u32) -> u32
     ensures { RemoveForC store.old sheet result store.new }
 {
-    match store::remove(store, sheet) {
-        Removed::Refused(x) => u32::from(x),
-        Removed::Done => 0,
-    }
+    answer_number(store::remove(store, sheet))
 }
 
-pub fn step(old: &[u8], new: &[u8], store: &mut [u8], place: usize, outcome: u32) -> StepValues
-    ensures { StepForC old.now new.now store.old place outcome result.number store.new result.place
+pub fn step(keys: Keys, store: &mut [u8], place: usize, outcome: u32) -> StepValues
+    ensures { StepForC keys.entry.old.now keys.entry.new.now store.old place outcome result.number store.new result.place
         result.outcome }
 {
-    match store::step_at(old, new, store, place) {
-        Stepped::Refused(x) => StepValues {
+    match store::step_at(keys, store, place) {
+        Err(x) => StepValues {
             number: u32::from(x),
             place,
             outcome,
         },
-        Stepped::Went {
-            outcome: o,
-            place: p,
-        } => StepValues {
+        Ok(went) => StepValues {
             number: 0,
-            place: p,
-            outcome: outcome_number(o),
+            place: went.place,
+            outcome: u32::from(went.outcome),
         },
     }
 }

@@ -1,6 +1,8 @@
 // The rekeying job as a struct that is lent: the thin step over it, above the step by value.
 ghost use Rattle.answers.specs.Sheets.{StepForC};
 
+use sheets::Keys;
+
 // The rekeying job: the place that its next step works on. A new copy starts at 0.
 #[repr(C)]
 #[derive(Clone, Copy)]
@@ -19,9 +21,7 @@ pub fn lagunedo_job_step(
     ensures { StepForC old.now new.now store.old job.old.place outcome.old result
         store.new job.new.place outcome.new }
 {
-    let at = job.place;
-    let before = *outcome;
-    let a = answers::step(old, new, store, at, before);
+    let a = answers::step(Keys { old, new }, store, job.place, *outcome);
     job.place = a.place;
     *outcome = a.outcome;
     a.number

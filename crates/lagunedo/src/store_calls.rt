@@ -1,6 +1,10 @@
 // The store's calls for C. Each makes the call with what stands behind its pointers, and writes back what is to stand there.
 ghost use Rattle.answers.specs.Sheets.{CheckedForC, ReadForC, AddForC, AddXtsForC, ReviseForC, RemoveForC, StepForC};
 
+use checking::Counts;
+use sheets::Keys;
+use store::Text;
+
 // The five counts of a sound store; 256 and the lowest faulty slot; 4.
 pub fn lagunedo_check(
     store: &[u8],
@@ -15,13 +19,20 @@ pub fn lagunedo_check(
         old.old new.old result fault.new used.new free.new clear.new
         old.new new.new }
 {
-    let a = answers::check(store, *fault, *used, *free, *clear, *old, *new);
+    let counts = Counts {
+        used: *used,
+        free: *free,
+        clear: *clear,
+        old: *old,
+        new: *new,
+    };
+    let a = answers::check(store, *fault, counts);
     *fault = a.fault;
-    *used = a.used;
-    *free = a.free;
-    *clear = a.clear;
-    *old = a.old;
-    *new = a.new;
+    *used = a.counts.used;
+    *free = a.counts.free;
+    *clear = a.counts.clear;
+    *old = a.counts.old;
+    *new = a.counts.new;
     a.number
 }
 
@@ -38,9 +49,13 @@ pub fn lagunedo_read(
     ensures { ReadForC old.now new.now store.now sheet text.old length.old
         revision.old result text.new length.new revision.new }
 {
-    let a = answers::read(old, new, store, sheet, text, *length, *revision);
-    *length = a.length;
-    *revision = a.revision;
+    let before = Text {
+        length: *length,
+        revision: *revision,
+    };
+    let a = answers::read(Keys { old, new }, store, sheet, text, before);
+    *length = a.behind.length;
+    *revision = a.behind.revision;
     a.number
 }
 
@@ -56,8 +71,8 @@ pub fn lagunedo_add(
     ensures { AddForC old.now new.now store.old sheet text.now revision.old result
         store.new revision.new }
 {
-    let a = answers::add(old, new, store, sheet, text, *revision);
-    *revision = a.revision;
+    let a = answers::add(Keys { old, new }, store, sheet, text, *revision);
+    *revision = a.behind;
     a.number
 }
 
@@ -75,8 +90,9 @@ pub fn lagunedo_add_xts(
     ensures { AddXtsForC key.now number unit.now old.now new.now store.old sheet
         revision.old result store.new revision.new }
 {
-    let a = answers::add_xts(key, number, unit, old, new, store, sheet, *revision);
-    *revision = a.revision;
+    let keys = Keys { old, new };
+    let a = answers::add_xts(key, number, unit, keys, store, sheet, *revision);
+    *revision = a.behind;
     a.number
 }
 
@@ -93,8 +109,8 @@ pub fn lagunedo_revise(
     ensures { ReviseForC old.now new.now store.old sheet seen text.now
         revision.old result store.new revision.new }
 {
-    let a = answers::revise(old, new, store, sheet, seen, text, *revision);
-    *revision = a.revision;
+    let a = answers::revise(Keys { old, new }, store, sheet, seen, text, *revision);
+    *revision = a.behind;
     a.number
 }
 
@@ -116,7 +132,7 @@ pub fn lagunedo_step(
     ensures { StepForC old.now new.now store.old place.old outcome.old result
         store.new place.new outcome.new }
 {
-    let a = answers::step(old, new, store, *place, *outcome);
+    let a = answers::step(Keys { old, new }, store, *place, *outcome);
     *place = a.place;
     *outcome = a.outcome;
     a.number
