@@ -111,6 +111,9 @@ module _ (s : List ℕ) (n : ℕ) where
   pub found_any : is_some (found s n) ≡ not (absent (slots s) (slot s) n)
   found_any = (by_search NoSheet (ltb (find s n) (slots s)) refl).1
 
+-- what the ladders' proofs need of a search
+pub ruleset searched = (found_or, found_any, there, find_has)
+
 -- place k holds sheet n, which is not 0, and no lower one does
 pub record Found (c : ℕ) (r : ℕ → List ℕ) (n k : ℕ) : Type 0 where
   pub some : n ≡ 0 → ⊥

@@ -22,7 +22,7 @@ pub fn step_plan(keys: Keys, store: &[u8], place: usize) -> Result<usize, Refusa
 }
 
 // 1, 4, 5, 7, 12, 13. There is no test for 14: a text's length does not change in deciphering.
-#[tactic(auto, using(crate::proofs::PlanLaws::there, slots::proofs::FindLaws::find_has), unfolding(crate::specs::Plans::guard, crate::specs::Plans::opened, crate::specs::Plans::read_from))]
+#[tactic(auto, using(crate::proofs::PlanLaws::searched), unfolding(crate::specs::Plans::guard, crate::specs::Plans::opened, crate::specs::Plans::read_from))]
 pub fn read_plan(keys: Keys, store: &[u8], sheet: u32, room: usize) -> Result<usize, Refusal>
     ensures { result
         ≡ read_plan keys.entry.old.now keys.entry.new.now store.now sheet room }
@@ -33,8 +33,8 @@ pub fn read_plan(keys: Keys, store: &[u8], sheet: u32, room: usize) -> Result<us
     read_at_plan(keys.old, keys.new, store, room, k)
 }
 
-// 12, 13, of the slot that was found, which has a number. The keys come apart: that a slice holds bytes, by which 14 cannot come, is known of a
-// parameter, and not of a field of one.
+// 12, 13, of the slot that was found, which has a number. The keys come apart: the proof that 14 cannot come needs that they are bytes, which is known of
+// a slice that is a parameter, and did not close of a field.
 #[tactic(auto, unfolding(crate::specs::Plans::guard, crate::specs::Plans::read_at_plan))]
 pub fn read_at_plan(
     old: &[u8],
@@ -58,7 +58,7 @@ pub fn read_at_plan(
 }
 
 // 1, 4, 5, 6, 11, 10.
-#[tactic(auto, using(crate::proofs::PlanLaws::found_or, crate::proofs::PlanLaws::found_any), unfolding(crate::specs::Plans::guard, crate::specs::Plans::opened, crate::specs::Plans::add_from))]
+#[tactic(auto, using(crate::proofs::PlanLaws::searched), unfolding(crate::specs::Plans::guard, crate::specs::Plans::opened, crate::specs::Plans::add_from))]
 pub fn add_plan(keys: Keys, store: &[u8], sheet: u32, text: &[u8]) -> Result<usize, Refusal>
     ensures { result
         ≡ add_plan keys.entry.old.now keys.entry.new.now store.now sheet text.now }
@@ -73,7 +73,7 @@ pub fn add_plan(keys: Keys, store: &[u8], sheet: u32, text: &[u8]) -> Result<usi
 }
 
 // 1, 4, 5, 6, 7, 12, 8, 9.
-#[tactic(auto, using(crate::proofs::PlanLaws::there), unfolding(crate::specs::Plans::guard, crate::specs::Plans::opened, crate::specs::Plans::revise_from))]
+#[tactic(auto, using(crate::proofs::PlanLaws::searched), unfolding(crate::specs::Plans::guard, crate::specs::Plans::opened, crate::specs::Plans::revise_from))]
 pub fn revise_plan(
     keys: Keys,
     store: &[u8],

@@ -50,7 +50,7 @@ pub fn fits(text: &[u8]) -> Result<(), Refusal>
 }
 
 // 7: the sheet's slot.
-#[tactic(auto, using(crate::proofs::PlanLaws::found_or))]
+#[tactic(auto, using(crate::proofs::PlanLaws::searched))]
 pub fn slot_of(store: &[u8], sheet: u32) -> Result<usize, Refusal>
     ensures { result
         ≡ cond (absent (slots store.now) (slot store.now) sheet) (Err Refusal.NoSheet) (Ok (find store.now sheet)) }
