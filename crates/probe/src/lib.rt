@@ -20,8 +20,8 @@ pub extern "C" fn lagunedo_probe_aes_blocks(key: &[u8], back: bool, buffer: &mut
 
 // The wide block of the message under L and T_star, over AES under the key; with `back`, over its inverse. 1 where the key is not of a
 // size that AES takes; 2 where L or T_star is not a block, or the message is below 16 bytes. The message is then kept.
-#[unsafe(no_mangle)]
 #[tactic(auto, unfolding(crate::specs::Calls::wide_number, crate::specs::Calls::wide_afterwards))]
+#[unsafe(no_mangle)]
 pub extern "C" fn lagunedo_probe_wide(
     key: &[u8],
     back: bool,
@@ -44,8 +44,8 @@ pub extern "C" fn lagunedo_probe_wide(
 }
 
 // The substitution of every byte of the buffer, or with `back` its inverse, as the running code has it.
-#[unsafe(no_mangle)]
 #[tactic(auto, unfolding(crate::specs::Calls::substituted_back))]
+#[unsafe(no_mangle)]
 pub extern "C" fn lagunedo_probe_substitute(back: bool, buffer: &mut [u8]) -> u32
     ensures { SubstitutionCalled back buffer.old result buffer.new }
 {
@@ -59,8 +59,8 @@ pub extern "C" fn lagunedo_probe_substitute(back: bool, buffer: &mut [u8]) -> u3
 
 // The same, looked up in the tables: every byte is read from a place that depends on the byte before.
 // The interface for C has both; a body for both would take the two functions and a clause about each, and be no plainer.
-#[unsafe(no_mangle)]
 #[tactic(auto, unfolding(crate::specs::Calls::substituted_back))]
+#[unsafe(no_mangle)]
 pub extern "C" fn lagunedo_probe_look_up(back: bool, buffer: &mut [u8]) -> u32
     ensures { SubstitutionCalled back buffer.old result buffer.new }
 {

@@ -11,7 +11,8 @@ loop-x-preserved c =
     let l = c.loop-x in
     let s : List ℕ = c.args.s.now in (
       omega (arith, c.digest_step-h.ensures),
-      ap (λ (h : ℕ). digest_from h (drop (l.x-index + 1) s)) c.digest_step-h.ensures ∙ sym (at_drop_more (digest_from l.h) s l.x-index 0 (omega arith)) ∙ l.invariant.1,
+      ap (λ (h : ℕ). digest_from h (drop (l.x-index + 1) s)) c.digest_step-h.ensures
+          ∙ sym (at_drop_more (digest_from l.h) s l.x-index 0 (omega arith)) ∙ l.invariant.1,
     )
 
 pub returns : goal.returns

@@ -37,5 +37,6 @@ pub returns : goal.returns
 returns c =
     let a = c.args in
     decided a.by a.from a.s.now c.all.result
-    (cases_from_all _ _ _ (Fits a.by a.from a.s.now) (Fails a.by a.from a.s.now) c.all.ensures.ran (YieldsList-from_enumerate (YieldsList-from_slice a.s.now cc) cc)
+    (cases_from_all _ _ _ (Fits a.by a.from a.s.now) (Fails a.by a.from a.s.now) c.all.ensures.ran
+    (YieldsList-from_enumerate (YieldsList-from_slice a.s.now cc) cc)
     (λ x q k. search rules) (λ x q k. search rules))
