@@ -23,7 +23,7 @@ taken_32 = refl
 pub length-crypted : (back : Bool) (keys : List (List ℕ)) (nr : ℕ) (b : List ℕ) → length (crypted back keys nr b) ≡ 16
 length-crypted back keys nr b = length_of_cipher back keys nr b
 
--- what they make of a block with the round keys of `key_setup` and the rounds of `rounds_of`
+-- what they make of a block with the round keys and the number of rounds that `key_setup` gives
 pub crypted_aes : (back : Bool) (key b : List ℕ) → crypted back (round_keys key) (Nr key) b ≡ aes back key b
 unfolding aes
 crypted_aes back key b = refl

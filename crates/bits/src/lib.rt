@@ -59,7 +59,7 @@ pub fn put_planes(group: &mut [u32; 32], t: usize, q: BitPlanes)
     group[t + 28] = q.p7;
 }
 
-// Puts f of them in the place of each planes of the group. By place: a planes lies four words apart, so no iterator over the group gives it.
+// Puts f of them in the place of each planes of the group. By place: the planes at t lie four words apart, so no iterator over the group gives it.
 pub fn over_planes<F: Fn(BitPlanes) -> BitPlanes>(group: &mut [u32; 32], f: F)
     requires { F.IsAlwaysCallable f }
     ensures { OverPlanes (F.post f) group.old group.new }

@@ -58,7 +58,7 @@ pub fn doubled(x: [u8; 16]) -> [u8; 16]
     })
 }
 
-// The bytes of s from `at` on, fewer than 16, padded.
+// The bytes of s from `at` on, fewer than 16, padded. `at` is 0 at both callers today; as `load` and `put` it takes any place.
 pub fn padded(s: &[u8], at: usize) -> [u8; 16]
     requires { (at ≤ length s.now) × (length s.now < at + 16) }
     ensures { result ≡ pad (drop at s.now) }
@@ -69,7 +69,7 @@ pub fn padded(s: &[u8], at: usize) -> [u8; 16]
     r
 }
 
-// x where y is above 127, and else 0.
+// x where y is above 127, and else 0. An `if` here, and no branch in the machine code: the gate looks (host/c/secret_test.sh).
 fn carry(y: u8, x: u8) -> u8
     ensures { result ≡ carried y x }
 {

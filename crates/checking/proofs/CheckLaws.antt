@@ -1,4 +1,4 @@
--- Laws of check: the tests on a slot, the counts in a loop, and each way out of the call.
+-- Laws of check: the tests on a slot, the counts of the records that pass a test, and each way out of the call.
 -- Assumes nothing.
 use mathlib.Core.Path.{◌≡◌, refl, sym, ap, ap₂, ◌∙◌}
 use mathlib.Core.Bool.{Bool, true, false, cond, not, ◌&&◌, ◌||◌}

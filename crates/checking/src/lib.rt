@@ -23,7 +23,8 @@ pub struct Counts {
     pub new: u32,
 }
 
-// What check answers: the five counts of a sound store, or the lowest faulty slot.
+// What check answers: the five counts of a sound store, or the lowest faulty slot. No `Result`: a faulty slot is an answer of check, and
+// no refusal.
 #[derive(Clone, Copy, PartialEq, Eq)]
 pub enum Checked {
     Counts(Counts),

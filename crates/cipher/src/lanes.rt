@@ -6,7 +6,8 @@ ghost use Rattle.cipher.specs.Cipher.{cipher, inv_cipher, crypted};
 
 use rounds::RoundKeys;
 
-// The n blocks of s from `at` on. Every other byte of s is kept.
+// The n blocks of s from `at` on. Every other byte of s is kept. A place and a count, and no part of s: what the loop over groups leaves is said of the
+// whole slice (`on_group`), and of a part it is no plainer.
 pub fn group(back: bool, keys: RoundKeys, s: &mut [u8], at: usize, n: usize)
     requires { (n ≤ 16) × (at + 16 * n ≤ length s.old) }
     ensures { s.new
@@ -19,7 +20,7 @@ pub fn group(back: bool, keys: RoundKeys, s: &mut [u8], at: usize, n: usize)
     planes::gather(&a, s, at, n);
 }
 
-// What a holds afterwards is each of b's blocks, enciphered, or with `back` deciphered.
+// What a holds afterwards is each of b's blocks, enciphered, or with `back` deciphered (why the direction is a `bool`: `crypt`).
 fn crypt_lanes(back: bool, keys: RoundKeys, b: &mut [u8; 256], a: &mut [u8; 256])
     ensures { Lanewise (crypted back keys.keys keys.rounds) b.old a.new }
 {

@@ -14,7 +14,8 @@ use block::xor;
 use rounds::{RoundKeys, inv_mix_columns, inv_shift_rows, mix_columns, shift_rows};
 use sbox::{inv_sub_bytes, sub_bytes};
 
-// One block, enciphered, or with `back` deciphered.
+// One block, enciphered, or with `back` deciphered. The direction is a `bool` here and above, since the definitions take one (`crypted back`) and keep
+// their meaning; where it picks a step, an `if` does.
 pub fn crypt(back: bool, keys: RoundKeys, b: [u8; 16]) -> [u8; 16]
     ensures { result ≡ crypted back keys.keys keys.rounds b }
 {
@@ -26,7 +27,7 @@ pub fn crypt(back: bool, keys: RoundKeys, b: [u8; 16]) -> [u8; 16]
 }
 
 // Every full block of s in place; the bytes after them are kept. Sixteen blocks at a time, and then those that are left if they are three
-// or more: fewer are quicker one by one.
+// or more: fewer are quicker one by one. By places: of what is written through the chunks that std lends (`as_chunks_mut`) a proof knows nothing.
 pub fn crypt_blocks(back: bool, keys: RoundKeys, s: &mut [u8])
     ensures { s.new ≡ on_blocks (map (crypted back keys.keys keys.rounds)) s.old }
 {

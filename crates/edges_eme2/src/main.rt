@@ -69,15 +69,16 @@ fn every_message(
 
 // Makes one call on a fresh message, and prints its line.
 fn line(rt: &impl Print, back: bool, key: &[u8], ad: &[u8], message: &mut [u8]) -> io::Result<()> {
-    fill(message, 3, 0);
-    let r = call(back, key, ad, message);
     let direction = if back { "decipher" } else { "encipher" };
     print!(rt;
-        "key {} data {} message {} {direction} {r}",
+        "key {} data {} message {} {direction} ",
         key.len(),
         ad.len(),
         message.len()
     )?;
+    fill(message, 3, 0);
+    let r = call(back, key, ad, message);
+    print!(rt; "{r}")?;
     if r == 0 {
         done(rt, back, key, ad, message)
     } else if is_pattern(message, 3, 0) {

@@ -10,7 +10,7 @@ ghost use Rattle.eme2.specs.Calls.{Called};
 
 use numbers::Refusal;
 
-// Overwrites the message with its encipherment under the key and the associated data.
+// Overwrites the message with its encipherment under the key and the associated data. Two names over `call`, as 01 has them.
 pub fn encipher(key: &[u8], ad: &[u8], message: &mut [u8]) -> Result<(), Refusal>
     ensures { Called false key.now ad.now message.old result message.new }
 {
@@ -32,6 +32,7 @@ fn call(back: bool, key: &[u8], ad: &[u8], message: &mut [u8]) -> Result<(), Ref
     if !key_taken(key) {
         return Err(Refusal::KeyLength);
     }
+    // The two bounds apart: an edit that must fail turns each by itself.
     if message.len() < 16 {
         return Err(Refusal::MessageLength);
     }

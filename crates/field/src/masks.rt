@@ -10,10 +10,11 @@ pub fn mask(s: &mut [u8], l: [u8; 16]) -> [u8; 16]
     ensures { (result ≡ doubles (full s.old) l) × (s.new ≡ on_blocks (masked l) s.old) }
 {
     let mut m = l;
+    // By the blocks' numbers: of what is written through the chunks that std lends (`as_chunks_mut`) a proof knows nothing.
     for k in 0..s.len() / 16 {
         let x = block::load(s, 16 * k);
         block::put(s, 16 * k, block::xor(x, m));
-        // By `next`: the check makes no proof of a call whose result is laid in an array that stands already.
+        // By `next`: the check makes no proof of a call that takes the array that its result is laid in.
         let next = block::doubled(m);
         m = next;
     }

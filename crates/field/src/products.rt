@@ -11,7 +11,7 @@ pub fn product(a: [u8; 16], b: [u8; 16]) -> [u8; 16]
     let mut sum = [0u8; 16];
     let mut m = b;
     for n in 0..128 {
-        // By `more` and `next`: the check makes no proof of a call whose result is laid in an array that stands already.
+        // By `more` and `next`: the check makes no proof of a call that takes the array that its result is laid in.
         let more = xor(sum, only_if((a[n / 8] >> (n % 8)) % 2, m));
         sum = more;
         let next = doubled(m);

@@ -1,4 +1,4 @@
--- Laws of decimal: its two cases as the code has them, that the digits read back give the number, that no zero stands in front, and how
+-- Laws of decimal: its two cases, that it is what the library writes, that the digits read back give the number, that no zero stands in front, and how
 -- many digits there are.
 -- Assumes nothing.
 use mathlib.Core.Path.{◌≡◌, refl, sym, ap, ◌∙◌}

@@ -29,7 +29,7 @@ pub enum Refusal {
     BlockNotAlone,
 }
 
-// The number of a refusal, 01's or 02's.
+// The number of a refusal, 01's or 02's: a row for each, which `tools/numbers` holds to the header, and of which an edit turns one.
 impl From<Refusal> for u32 {
     ghost from_gives = { λ x n. n ≡ paper x };
 
@@ -56,7 +56,8 @@ impl From<Refusal> for u32 {
     }
 }
 
-// The number that a call answers, which gives nothing beside it: 0 if the call was not refused.
+// The number that a call answers, which gives nothing beside it: 0 if the call was not refused. No `From`, since neither `u32` nor `Result` is of this
+// crate.
 pub fn answer_number(a: Result<(), Refusal>) -> u32
     ensures { result ≡ answer_paper a }
 {

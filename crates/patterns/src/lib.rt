@@ -5,7 +5,7 @@ ghost use Rattle.std.specs.Prelude.{true, false, ◌≡◌, ◌<◌};
 ghost use Rattle.patterns.specs.Pattern.{pattern_byte, Pattern};
 ghost use Rattle.patterns.specs.Digest.{digest_step, digest_from};
 
-// The pattern that goes on by `by` from `from`, over the whole slice.
+// The pattern that goes on by `by` from `from`, over the whole slice. The two are no struct: each caller writes both as numbers once.
 pub fn fill(s: &mut [u8], by: usize, from: usize)
     ensures { Pattern by from s.new }
 {
@@ -30,7 +30,7 @@ fn pattern(by: usize, from: usize, i: usize) -> u8
     (((i % 256) * (by % 256) + i / 256 + from % 256) % 256) as u8
 }
 
-// A number that tells slices apart.
+// A number that tells slices apart. No `fold`: the step asks for a bound, which a closure would have to show of every state.
 pub fn digest(s: &[u8]) -> u64
     ensures { result ≡ digest_from 0 s.now }
 {

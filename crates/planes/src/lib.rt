@@ -86,7 +86,7 @@ pub fn spread(s: &[u8], at: usize, n: usize, d: &mut [u8; 256])
     );
 }
 
-// The first n lanes as blocks back in their place in d. Every other byte of d is kept.
+// The first n lanes as blocks back in their place in d. Every other byte of d is kept. By places, as in `cipher`.
 pub fn gather(s: &[u8; 256], d: &mut [u8], at: usize, n: usize)
     requires { (n ≤ 16) × (at + 16 * n ≤ length d.old) }
     ensures { d.new ≡ take at d.old ++ join (tab n (lane s.now)) ++ drop (at + 16 * n) d.old }
@@ -147,7 +147,7 @@ fn row(s: &[u8; 256], p: usize, k: usize) -> [u8; 16]
     load(s, 16 * (p / 4 * 4 + (p % 4 + k) % 4))
 }
 
-// Every sixteenth byte of s from `at` on, n of them, then zeros.
+// Every sixteenth byte of s from `at` on, n of them, then zeros. By place: `from_fn` with a test of the place was tried, and its proof did not close.
 fn strided(s: &[u8], at: usize, n: usize) -> [u8; 16]
     requires { (n ≤ 16) × (at + 16 * n < length s.now + 16) }
     ensures { result ≡ tab 16 (λ i. cond (ltb i n) (byte s.now (at + 16 * i)) 0) }

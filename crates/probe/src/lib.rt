@@ -1,6 +1,7 @@
 // A window for tests and benchmarks on calls that the layers use among themselves and the interface for C does not show: AES over
 // all full blocks of a buffer, and the wide block under any L and T_star; the substitution of bytes, as the running code has it and as it
 // is looked up in its tables. Nothing of the job server links it.
+// The numbers 1 and 2 are what C is answered: no `Result` goes through the interface.
 #![tactic(auto)]
 
 ghost use Rattle.probe.specs.Calls.{BlocksCalled, WideCalled, SubstitutionCalled};

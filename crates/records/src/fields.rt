@@ -2,6 +2,7 @@
 ghost use Rattle.std.specs.Prelude.{◌≡◌, ◌≤◌, length};
 ghost use Rattle.records.specs.Record.{num, rev, mark, len, all_zero, sound_used, sound};
 
+use super::marks::Mark;
 use super::{RECORD_SIZE, TEXT_MOST};
 
 // The sheet number; 0 means the slot is free.
@@ -50,7 +51,7 @@ fn is_sound_used(r: &[u8; RECORD_SIZE]) -> bool
     if revision(r) == 0 {
         return false;
     }
-    if mark(r) > 2 {
+    if mark(r) > u8::from(Mark::New) {
         return false;
     }
     if r[7] != 0 {

@@ -1,7 +1,7 @@
 // One record of the store (01, the store): its fields, whether it is sound, and a record written whole.
 //
-// Contracts cite `specs/Record.antt`, the one place that knows where a field stands. The fields stand in the first 16 bytes, the lead, so that they
-// can be read of a lead alone. Nothing here knows a key: the text that a record holds is a room above.
+// Contracts cite `specs/Record.antt`, the one place that knows where a field stands, and of a mark's byte `specs/Marks.antt`. The fields stand in the
+// first 16 bytes, the lead, so that they can be read of a lead alone. Nothing here knows a key: the text that a record holds is a room above.
 #![tactic(auto)]
 
 // The fields of a record, and whether it is sound.

@@ -3,7 +3,8 @@ ghost use Rattle.std.specs.Prelude.{◌≡◌, ◌++◌, ◌-◌, ◌≤◌, len
 ghost use Rattle.records.specs.Record.{record_size, text_most, lead, record_of};
 
 // The record of sheet n at revision v with mark m, holding the text as it stands. The mark is a byte, as `record_of` has it: a `Mark` would ask
-// more of callers. The record is a slice, as callers have it: the library does not say what a store ends as that is lent by `as_chunks_mut`.
+// more of callers. The record is a slice, as callers have it: the library does not say what a store ends as that is lent by `as_chunks_mut`, and
+// `as_mut_array` would give each caller a branch that cannot come.
 pub fn write(r: &mut [u8], n: u32, v: u32, m: u8, text: &[u8])
     requires { (length r.old ≡ record_size) × (length text.now ≤ text_most) }
     ensures { r.new ≡ record_of n v m text.now }

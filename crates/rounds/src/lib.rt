@@ -12,7 +12,7 @@ ghost use Rattle.rounds.specs.Steps.{shift_rows, inv_shift_rows, mix_columns, in
 use block::xor;
 
 // The round keys of a key, 0 to `rounds`, which is the number of rounds; those after them are not used. They go by value from key setup to the
-// block function, for both directions.
+// block function, for both directions. The direction is no part of them: T_star is enciphered under the keys that a message is deciphered under.
 #[derive(Clone, Copy)]
 pub struct RoundKeys {
     pub keys: [[u8; 16]; 15],
@@ -20,7 +20,8 @@ pub struct RoundKeys {
     ghost few: { (0 < rounds) × (rounds < 15) },
 }
 
-// ShiftRows.
+// ShiftRows. The places are written out, here, in the inverse and in `turned`, as FIPS 197 prints them: by arithmetic on the place they are one
+// function, and no plainer.
 pub fn shift_rows(s: [u8; 16]) -> [u8; 16]
     ensures { result ≡ shift_rows s }
 {

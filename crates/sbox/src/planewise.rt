@@ -25,7 +25,7 @@ fn unsubstituted(q: BitPlanes) -> BitPlanes
     bottom(products(u, y))
 }
 
-// The substitution, or with `back` its inverse, of all bytes of a group of planes. `back` is the direction in every layer above; it is public.
+// The substitution, or with `back` its inverse, of all bytes of a group of planes. Why the direction is a `bool`, `cipher::crypt` says.
 pub fn substitute(back: bool, group: &mut [u32; 32])
     ensures { EachOf (directed back) group.old group.new }
 {

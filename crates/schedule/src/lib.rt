@@ -44,7 +44,8 @@ pub fn key_setup(key: &[u8]) -> RoundKeys
     }
 }
 
-// The words after the key's nk, up to those of the last round.
+// The words after the key's nk, up to those of the last round. That nk is 4 at the least is asked for by three functions: 5.2 speaks of Nk, and a type of
+// its two sizes would have to give the number back at each place.
 fn expand(w: &mut [u8; 240], nk: usize)
     requires { (4 ≤ nk) × (nk ≤ 8) }
     ensures { w.new ≡ expanded nk (take (4 * nk) w.old) (3 * nk + 28) ++ drop (4 * (4 * nk + 28)) w.old }

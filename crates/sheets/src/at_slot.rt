@@ -9,7 +9,7 @@ use super::text::{put_sheet, take_text};
 use records::{RECORD_SIZE, TEXT_MOST};
 use slots::record_at;
 
-// Slot k becomes sheet n at revision v with the text, under the new key w.
+// Slot k becomes sheet n at revision v with the text, under the new key w. The part is taken here, as in `slots::empty`.
 pub fn put_sheet_at(s: &mut [u8], k: usize, w: &[u8], n: u32, v: u32, text: &[u8])
     requires { (k < slots s.old) × (length text.now ≤ text_most) }
     ensures { s.new ≡ put s.old k (sheet w.now n v text.now) }

@@ -8,7 +8,8 @@ use super::Keys;
 use records::marks::Mark;
 use records::{RECORD_SIZE, mark, text_length, write};
 
-// The record r becomes sheet n at revision v with the text, under the new key w with the new lead.
+// The record r becomes sheet n at revision v with the text, under the new key w with the new lead. The record is a slice, as
+// `records::write` takes it.
 pub fn put_sheet(r: &mut [u8], w: &[u8], n: u32, v: u32, text: &[u8])
     requires { (length r.old ≡ record_size) × (length text.now ≤ text_most) }
     ensures { r.new ≡ sheet w.now n v text.now }

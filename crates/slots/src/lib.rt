@@ -30,7 +30,7 @@ pub fn records_of(s: &[u8]) -> &[[u8; RECORD_SIZE]]
     s.as_chunks().0
 }
 
-// The record in slot k.
+// The record in slot k. A place stays a number with `k < slots`, here and above: the caller found it in this very store, which no type of the place says.
 pub fn record_at(s: &[u8], k: usize) -> &[u8; RECORD_SIZE]
     requires { k < slots s.now }
     ensures { result.now ≡ slot s.now k }
@@ -45,7 +45,8 @@ pub fn find(s: &[u8], n: u32) -> Option<usize>
     records_of(s).iter().position(|r| number(r) == n)
 }
 
-// Slot k becomes all zeros.
+// Slot k becomes all zeros. The part is taken here: of a part that a function lends to be written no proof says what the store becomes
+// (docs/DECISIONS.md, choices, 26).
 pub fn empty(s: &mut [u8], k: usize)
     requires { k < slots s.old }
     ensures { s.new ≡ put s.old k emptied }

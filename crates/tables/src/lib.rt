@@ -16,7 +16,9 @@ mod table;
 use inverse_table::INV_SBOX;
 use table::SBOX;
 
-// SubBytes. The table is copied to a local once and lent: a constant that is indexed is copied at every look-up.
+// SubBytes. The names are those of `sbox`, each over one function, so that `kat` and `probe` take either.
+//
+// The table is copied to a local once and lent: a constant that is indexed is copied at every look-up.
 pub fn sub_bytes(s: [u8; 16]) -> [u8; 16]
     ensures { result ≡ sub_bytes s }
 {

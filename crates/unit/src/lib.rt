@@ -53,7 +53,7 @@ fn blocks(back: bool, keys: RoundKeys, t: [u8; 16], s: &mut [u8]) -> [u8; 16]
 }
 
 // What is left of a unit after the blocks that can be read alone: nothing, or the last full block and the bytes after it. t is the tweak of
-// the full one; enciphering has it first, and deciphering the next one.
+// the full one; enciphering has it first, and deciphering the next one. By an `if`: why the direction is a `bool`, `cipher::crypt` says.
 fn last_two(back: bool, keys: RoundKeys, t: [u8; 16], s: &mut [u8])
     requires { (length s.old ≡ 0) ⊎ ((16 < length s.old) × (length s.old < 32)) }
     ensures { s.new ≡ last_two (crypted back keys.keys keys.rounds) back t s.old }

@@ -48,7 +48,7 @@ module _ (f : List ℕ → List ℕ) (size : (x : List ℕ) → length (f x) ≡
 
   sized_middle : (M1 : List ℕ) (i : ℕ) (M : List ℕ) (Xs : List (List ℕ)) → Sized Xs → Sized (middle f M1 i M Xs)
   unfolding middle
-  sized_middle m1 i M [] h = tt
+  sized_middle _ i M [] h = tt
   sized_middle M1 i M (X ∷ Xs) h =
       (length_ccc f size M1 i (mask f M1 i M X) X h.0, sized_middle M1 (suc i) (mask f M1 i M X) Xs h.1)
 

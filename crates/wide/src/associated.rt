@@ -18,7 +18,7 @@ pub fn t_star(keys: RoundKeys, key3: [u8; 16], ad: &[u8]) -> [u8; 16]
     let mut m = doubled(key3);
     let mut sum = [0u8; 16];
     for x in full {
-        // By `more` and `next`: the check makes no proof of a call whose result is laid in an array that stands already.
+        // By `more` and `next`: the check makes no proof of a call that takes the array that its result is laid in.
         let more = xor(sum, under(keys, m, *x));
         sum = more;
         let next = doubled(m);

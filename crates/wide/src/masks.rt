@@ -16,7 +16,7 @@ pub fn blocks(back: bool, keys: RoundKeys, m1: [u8; 16], s: &mut [u8])
     let mut m = m1;
     // A loop of its own beside field::mask: one walk that takes what is done to a block as a closure says of it a relation, and is no plainer.
     for k in 1..s.len() / 16 {
-        // By `next`: the check makes no proof of a call whose result is laid in an array that stands already.
+        // By `next`: the check makes no proof of a call that takes the array that its result is laid in.
         let next = one(back, keys, m1, m, s, k);
         m = next;
     }

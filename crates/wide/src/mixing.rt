@@ -31,7 +31,7 @@ fn total(x: [u8; 16], s: &[u8]) -> [u8; 16]
     let (full, rest) = s[16..].as_chunks::<16>();
     let mut sum = x;
     for b in full {
-        // By `more`: the check makes no proof of a call whose result is laid in an array that stands already.
+        // By `more`: the check makes no proof of a call that takes the array that its result is laid in.
         let more = xor(sum, *b);
         sum = more;
     }

@@ -7,6 +7,8 @@ ghost use Rattle.mode.specs.Wide.{wide};
 use super::mixing::mix;
 use aes::RoundKeys;
 
+// A message has a block at the least: no type says that of a slice, so each step asks for it.
+//
 // The message s becomes its wide block under L and T_star; with `back`, what it is the wide block of.
 pub fn wide(back: bool, keys: RoundKeys, l: [u8; 16], t: [u8; 16], s: &mut [u8])
     requires { 16 ≤ length s.old }

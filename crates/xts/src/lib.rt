@@ -15,7 +15,7 @@ ghost use Rattle.xts.specs.Calls.{Called, BlockCalled};
 use aes::RoundKeys;
 use numbers::Refusal;
 
-// Overwrites the unit with its encipherment under the key and the unit's number.
+// Overwrites the unit with its encipherment under the key and the unit's number. Two names over `call`, as 02 has them.
 pub fn encipher(key: &[u8], number: u64, unit: &mut [u8]) -> Result<(), Refusal>
     ensures { Called false key.now number unit.old result unit.new }
 {
@@ -50,6 +50,7 @@ pub fn tested(key: usize, unit: usize) -> Result<(), Refusal>
     if !key_taken(key) {
         return Err(Refusal::XtsKeyLength);
     }
+    // The two bounds apart: an edit that must fail turns each by itself.
     if unit < 16 {
         return Err(Refusal::UnitLength);
     }
@@ -59,6 +60,7 @@ pub fn tested(key: usize, unit: usize) -> Result<(), Refusal>
     Ok(())
 }
 
+// Key and number are two parameters, as in the interface for C.
 fn call(back: bool, key: &[u8], number: u64, unit: &mut [u8]) -> Result<(), Refusal>
     ensures { Called back key.now number unit.old result unit.new }
 {
@@ -83,7 +85,8 @@ fn transform(back: bool, key: &[u8], number: u64, unit: &mut [u8])
     unit::unit(back, key1(key), t, unit);
 }
 
-// The round keys of the first half of the key.
+// The round keys of the first half of the key. That the key is taken stands in four clauses: a struct about it would hold the slice, and each clause
+// its field, which is no plainer.
 fn key1(key: &[u8]) -> RoundKeys
     requires { key_taken (length key.now) ≡ true }
     ensures keys { result.keys ≡ round_keys (Key1 key.now) }

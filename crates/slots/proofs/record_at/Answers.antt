@@ -1,4 +1,4 @@
--- `slots::record_at` meets its contract: the part that is lent is the slot.
+-- `slots::record_at` meets its contract: the k-th of the records is the slot.
 -- Assumes nothing.
 use Rattle.std.proofs.Common.{ℕ, List, [], length, get_or, ap, ◌∙◌, arith}
 use Rattle.block.proofs.TabLaws.{get_or-tab}

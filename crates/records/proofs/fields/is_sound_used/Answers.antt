@@ -13,8 +13,8 @@ returns-then-revision-eq0 c =
     let r : List ℕ = c.args.r.now in
     sym (unsound r (λ (u : Used r). omega arith))
 
-pub returns-then-mark-gt2 : goal.returns-then-mark-gt2
-returns-then-mark-gt2 c =
+pub returns-then-mark-from : goal.returns-then-mark-from
+returns-then-mark-from c =
     let r : List ℕ = c.args.r.now in
     sym (unsound r (λ (u : Used r). omega arith))
 
