@@ -19,7 +19,8 @@ fn exchanged(a: u32, b: u32, s: u32, m: u32) -> (u32, u32)
     (a ^ d << s, b ^ d)
 }
 
-// Exchanges bits in pairs: the odd ones of a word for the even ones of the next.
+// Exchanges bits in pairs: the odd ones of a word for the even ones of the next. Three functions, and not one over the distance: the words are fields,
+// by name (`BitPlanes`).
 fn flip_ones(q: BitPlanes) -> BitPlanes
     ensures { words result ≡ wired flip_ones (words q) }
 {
@@ -133,7 +134,7 @@ fn put_word(s: &mut [u8], at: usize, w: u32)
     s[at..at + 4].copy_from_slice(&w.to_le_bytes());
 }
 
-// 16 bytes as a group of planes. By shifts, which cost a fraction of what `flipped` does.
+// 16 bytes as a group of planes. By shifts, which cost a fraction of what `flipped` does, and by place, as `over_planes`.
 pub fn spread_block(s: &[u8; 16]) -> [u32; 32]
     ensures { Spread 1 s.now result }
 {

@@ -17,7 +17,8 @@ pub fn xor(a: [u8; 16], b: [u8; 16]) -> [u8; 16]
     std::array::from_fn(|i| a[i] ^ b[i])
 }
 
-// The block of s that starts at `at`.
+// The block of s that starts at `at`. A slice and a place, here and in `put`, `copy` and `padded`: what a write leaves is said of the whole slice, which a
+// part that is lent does not give back.
 pub fn load(s: &[u8], at: usize) -> [u8; 16]
     requires { at + 16 ≤ length s.now }
     ensures { result ≡ block_at s.now at }
@@ -27,7 +28,7 @@ pub fn load(s: &[u8], at: usize) -> [u8; 16]
     r
 }
 
-// Puts b into s from `at` on. Every other byte of s is kept.
+// Puts b into s from `at` on. Every other byte of s is kept. It is `copy` of a block, in the words of `with_block`.
 pub fn put(s: &mut [u8], at: usize, b: [u8; 16])
     requires { at + 16 ≤ length s.old }
     ensures { s.new ≡ with_block s.old at b }

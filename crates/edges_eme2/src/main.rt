@@ -30,6 +30,7 @@ fn main(rt: HostRuntime) -> io::Result<()> {
 }
 
 // Every length of the key with every length of the associated data and of the message, 7 by 7 by 11, each at the front of the longest one.
+// No struct of what is lent: each of the three functions cuts one of them shorter, and would make it anew.
 fn every_key(
     rt: &impl Print,
     key: &[u8; 65],

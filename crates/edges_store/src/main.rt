@@ -30,7 +30,8 @@ const KEY: usize = 65;
 // The longest store: 1,025 slots, one more than a store may have.
 const STORE: usize = 1025 * RECORD_SIZE;
 
-// What a script works on. Its lines see the keys `old` and `new` and the first `bytes` of the store, which may grow again.
+// What a script works on. Its lines see the keys `old` and `new` and the first `bytes` of the store, which may grow again. The
+// keys are two, as the calls for C take them.
 #[derive(Drop)]
 struct Desk<'a> {
     longest_old: &'a [u8; KEY],

@@ -5,7 +5,7 @@ ghost use Rattle.block.specs.Double.{doubles};
 ghost use Rattle.field.specs.Masks.{masked};
 
 // Each full block of s xored with its mask: l for the first, twice the one before for each next. The bytes after them are kept. The mask
-// that a next block would have is returned.
+// that a next block would have is returned. (Apart from `wide`'s walk: see there.)
 pub fn mask(s: &mut [u8], l: [u8; 16]) -> [u8; 16]
     ensures { (result ≡ doubles (full s.old) l) × (s.new ≡ on_blocks (masked l) s.old) }
 {

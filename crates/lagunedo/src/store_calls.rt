@@ -1,4 +1,5 @@
-// The store's calls for C. Each makes the call with what stands behind its pointers, and writes back what is to stand there.
+// The store's calls for C, over keys and numbers one by one, as C lends them. Each makes the call with what stands behind its pointers, and writes back
+// what is to stand there.
 ghost use Rattle.answers.specs.Sheets.{CheckedForC, ReadForC, AddForC, AddXtsForC, ReviseForC, RemoveForC, StepForC};
 
 use checking::Counts;

@@ -1,4 +1,5 @@
 // The calls of `lagunedo` as a static library for C: each export makes the call of its name, and has its clauses.
+// The interface for C names each direction and each pointer; and a crate is a library or a static library, so the calls stand twice.
 #![tactic(auto)]
 
 ghost use Rattle.std.specs.Prelude.{true, false};

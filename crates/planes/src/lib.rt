@@ -32,7 +32,7 @@ pub fn inv_shift_sub(s: &[u8; 256], d: &mut [u8; 256])
     sbox::inv_sub_all(d);
 }
 
-// MixColumns.
+// MixColumns. The products are those of `rounds`, over planes: one for both would need a trait of what can be xored, multiplied by x and turned.
 pub fn mix(s: &[u8; 256], d: &mut [u8; 256])
     ensures { Lanewise mix_columns s.now d.new }
 {

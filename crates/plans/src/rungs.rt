@@ -1,4 +1,5 @@
-// The rungs that several ladders share: each a test, and what it refuses with.
+// The rungs that several ladders share: each a test, and what it refuses with. By name, and not one function of a test and a refusal, so that a ladder
+// reads as 01's row of numbers does.
 ghost use Rattle.std.specs.Prelude.{cond, ◌≡◌, eqb, Ok, Err};
 ghost use Rattle.slots.specs.Slots.{slots, slot, find, bad_size};
 ghost use Rattle.plans.specs.Plans.{bad_keys, bad_text, absent};

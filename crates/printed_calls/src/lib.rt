@@ -6,7 +6,7 @@ use records::RECORD_SIZE;
 use script::{Call, print_kept, print_store};
 use std::io;
 
-// What a call is made on, and where it is printed.
+// What a call is made on, and where it is printed. The keys are two, and no `Keys`: the calls for C take them one by one.
 #[derive(Drop)]
 pub struct Bench<'a, 's, R> {
     pub rt: &'a R,

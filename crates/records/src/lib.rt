@@ -17,7 +17,7 @@ pub use writing::write;
 // 01: records of 2,112 bytes.
 pub const RECORD_SIZE: usize = 2112;
 
-// 01: a text of at most 2,096 bytes.
+// 01: a text of at most 2,096 bytes. A clause says it of each text: a type with the slice in it would owe at each call that it still lends the same.
 pub const TEXT_MOST: usize = 2096;
 
 // 02, order 1: a revision of at most 4,294,967,295.

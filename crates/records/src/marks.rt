@@ -10,7 +10,8 @@ pub enum Mark {
     New,
 }
 
-// The byte that stands for a mark.
+// The byte that stands for a mark, a row for each. One way only: an unsound record has any byte, of which the definitions speak too, so callers compare
+// bytes.
 impl From<Mark> for u8 {
     ghost from_gives = { λ m b. b ≡ mark_byte m };
 

@@ -15,6 +15,7 @@ pub fn write(r: &mut [u8], n: u32, v: u32, m: u8, text: &[u8])
     clear(r, 16 + l);
 }
 
+// The mark as a byte, as in `write`; number and revision are two parameters here and there, as the calls of 01 give them.
 fn lead(n: u32, v: u32, m: u8, l: usize) -> [u8; 16]
     ensures { result ≡ lead n v m l }
 {

@@ -85,7 +85,7 @@ fn changed(nk: usize, i: usize, t: [u8; 4]) -> [u8; 4]
     t
 }
 
-// Word i of w.
+// Word i of w. No `block::load` over the width: its clause is `block_at`'s, and a word's is `word`.
 fn word_at(w: &[u8], i: usize) -> [u8; 4]
     requires { 4 * i + 4 ≤ length w.now }
     ensures { result ≡ word w.now i }

@@ -5,7 +5,8 @@ pub struct Numbers<'a> {
 }
 
 impl Numbers<'_> {
-    // The number of the next run of digits, of at most 18; 0 where no digit is left.
+    // The number of the next run of digits, of at most 18; 0 where no digit is left. No `parse`: it refuses a longer run, where
+    // this goes on with the next number after eighteen digits.
     pub fn number(&mut self) -> usize {
         let words = self
             .rest

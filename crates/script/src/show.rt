@@ -11,6 +11,7 @@ pub fn print_store(rt: &impl Print, r: u32, store: &[u8], before: &[u8]) -> io::
     Ok(())
 }
 
+// In the words of `edges_eme2`, which has nothing to do with the store.
 pub fn print_kept(rt: &impl Print, kept: bool) -> io::Result<()> {
     if kept {
         print!(rt; " kept")

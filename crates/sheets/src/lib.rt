@@ -11,7 +11,8 @@ mod text;
 pub use at_slot::{put_sheet_at, rekey_at};
 pub use text::take_text;
 
-// The two keys of a call: a sheet is read under the one that its mark names, and written under the new one.
+// The two keys of a call: a sheet is read under the one that its mark names, and written under the new one. The store is
+// not in it: a ladder is lent it to read, a call to write, and remove has no keys.
 #[derive(Clone, Copy)]
 pub struct Keys<'a> {
     pub old: &'a [u8],

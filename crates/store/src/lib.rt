@@ -34,7 +34,7 @@ pub enum Outcome {
     Converted,
 }
 
-// The number of an outcome, which the calls for C answer.
+// The number of an outcome, which the calls for C answer: a row for each, as in `numbers`.
 impl From<Outcome> for u32 {
     ghost from_gives = { λ x n. n ≡ outcome_number x };
 

@@ -14,6 +14,8 @@ ghost use Rattle.unit.specs.Unit.{alone, xts_block, xts_blocks, stolen, last_two
 use aes::RoundKeys;
 use field::mask;
 
+// A unit has a block at the least, which no type says of a slice.
+//
 // The unit s, of 16 bytes or more, enciphered, or with `back` deciphered. t is the tweak of its block 0.
 pub fn unit(back: bool, keys: RoundKeys, t: [u8; 16], s: &mut [u8])
     requires { 16 ≤ length s.old }

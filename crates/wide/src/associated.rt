@@ -30,7 +30,7 @@ pub fn t_star(keys: RoundKeys, key3: [u8; 16], ad: &[u8]) -> [u8; 16]
     xor(sum, under(keys, doubled(m), padded(rest, 0)))
 }
 
-// Enc(m xor x) xor m.
+// Enc(m xor x) xor m. It is `unit`'s `under` the other way round, as 000 writes it: one for both would need a room below, and a law that xor commutes.
 fn under(keys: RoundKeys, m: [u8; 16], x: [u8; 16]) -> [u8; 16]
     ensures { result ≡ crypted false keys.keys keys.rounds (m ⊕ x) ⊕ m }
 {
