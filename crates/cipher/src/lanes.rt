@@ -36,10 +36,10 @@ fn forward(keys: RoundKeys, b: &mut [u8; 256], a: &mut [u8; 256])
     ensures { Lanewise (cipher keys.keys keys.rounds) b.old a.new }
 {
     planes::add(b, keys.keys[0]);
-    for j in 1..keys.rounds {
+    for key in &keys.keys[1..keys.rounds] {
         planes::sub_shift(b, a);
         planes::mix(a, b);
-        planes::add(b, keys.keys[j]);
+        planes::add(b, *key);
     }
     planes::sub_shift(b, a);
     planes::add(a, keys.keys[keys.rounds]);
@@ -50,6 +50,7 @@ fn inverse(keys: RoundKeys, b: &mut [u8; 256], a: &mut [u8; 256])
     ensures { Lanewise (inv_cipher keys.keys keys.rounds) b.old a.new }
 {
     planes::add(b, keys.keys[keys.rounds]);
+    // (by number: lib.rt)
     for j in (1..keys.rounds).rev() {
         planes::inv_shift_sub(b, a);
         planes::add(a, keys.keys[j]);

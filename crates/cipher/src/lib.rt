@@ -60,8 +60,8 @@ fn forward(keys: RoundKeys, b: [u8; 16]) -> [u8; 16]
     ensures { result ≡ cipher keys.keys keys.rounds b }
 {
     let mut s = xor(b, keys.keys[0]);
-    for j in 1..keys.rounds {
-        s = xor(mix_columns(shift_rows(sub_bytes(s))), keys.keys[j]);
+    for key in &keys.keys[1..keys.rounds] {
+        s = xor(mix_columns(shift_rows(sub_bytes(s))), *key);
     }
     xor(shift_rows(sub_bytes(s)), keys.keys[keys.rounds])
 }
@@ -71,6 +71,7 @@ fn inverse(keys: RoundKeys, b: [u8; 16]) -> [u8; 16]
     ensures { result ≡ inv_cipher keys.keys keys.rounds b }
 {
     let mut s = xor(b, keys.keys[keys.rounds]);
+    // By number, as 5.1 numbers the round keys; backwards over a part of the array the proof did not close when tried.
     for j in (1..keys.rounds).rev() {
         s = inv_mix_columns(xor(inv_sub_bytes(inv_shift_rows(s)), keys.keys[j]));
     }

@@ -56,6 +56,7 @@ fn short(mm: [u8; 16], s: &mut [u8])
     ensures { s.new ≡ take (full s.old * 16) s.old ++ (rest s.old ⊕ mm) }
 {
     let from = s.len() / 16 * 16;
+    // By place: a zip with mm was tried, and its proof did not close.
     for (i, x) in s[from..].iter_mut().enumerate() {
         *x ^= mm[i];
     }

@@ -1,4 +1,4 @@
--- `cipher::lanes::forward` meets its contract: before turn j each of the blocks has gone through the rounds 1 to j - 1.
+-- `cipher::lanes::forward` meets its contract: before the turn at index i each of the blocks has gone through the rounds 1 to i.
 -- Assumes nothing.
 use Rattle.std.proofs.Common.{◌≡◌, ℕ, ◌-◌, List, arith, ap, ap₂, ◌∙◌}
 use Rattle.block.specs.Xor.{◌⊕◌}
@@ -6,30 +6,31 @@ use Rattle.sbox.specs.Sub.{sub_bytes}
 use Rattle.rounds.specs.Steps.{shift_rows, mix_columns}
 use Rattle.planes.specs.Lanes.{lane}
 use Rattle.cipher.specs.Cipher.{round_key, through_rounds, cipher}
-use Rattle.cipher.proofs.RoundLaws.{no_round, round_done}
+use Rattle.cipher.proofs.RoundLaws.{no_round, round_done, key_at, length_keys}
 use Rattle.cipher.proofs.lanes.forward.Goals as goal
 
-pub loop-j-init : goal.loop-j-init
-loop-j-init c l h = no_round c.args.keys.keys (lane c.add.new.s l)
+pub loop-key-init : goal.loop-key-init
+loop-key-init c l h = no_round c.args.keys.keys (lane c.add.new.s l)
 
-pub loop-j-preserved : goal.loop-j-preserved
-loop-j-preserved c l h =
+pub loop-key-preserved : goal.loop-key-preserved
+loop-key-preserved c l h =
     let keys = c.args.keys.keys in
-    let j = c.loop-j.j in
-    c.add-in-loop-j.ensures l h
-    ∙ ap (λ (t : List ℕ). t ⊕ round_key keys j)
+    let i = c.loop-key.key-index in
+    c.add-in-loop-key.ensures l h
+    ∙ ap₂ (λ (t k : List ℕ). t ⊕ k)
     (c.mix.ensures l h
-    ∙ ap mix_columns (c.sub_shift.ensures l h ∙ ap (λ (t : List ℕ). shift_rows (sub_bytes t)) (c.loop-j.invariant l h)))
-    ∙ round_done keys j (lane c.add.new.s l) (omega arith)
+    ∙ ap mix_columns (c.sub_shift.ensures l h ∙ ap (λ (t : List ℕ). shift_rows (sub_bytes t)) (c.loop-key.invariant l h)))
+    (key_at keys (c.args.keys.rounds - 1) i (omega arith))
+    ∙ round_done keys i (lane c.add.new.s l)
 
 pub returns : goal.returns
 unfolding cipher
 returns c l h =
     let keys = c.args.keys.keys in
     let nr = c.args.keys.rounds in
-    let e : c.loop-j.j - 1 ≡ nr - 1 = omega arith in
+    let e : c.loop-key.key-index ≡ nr - 1 = omega (arith, length_keys keys (nr - 1) (omega arith)) in
     c.add-2.ensures l h
     ∙ ap (λ (t : List ℕ). t ⊕ round_key keys nr)
     (c.sub_shift-2.ensures l h
     ∙ ap (λ (t : List ℕ). shift_rows (sub_bytes t))
-    (c.loop-j.invariant l h ∙ ap₂ (λ (n : ℕ) (s : List ℕ). through_rounds keys n s) e (c.add.ensures l h)))
+    (c.loop-key.invariant l h ∙ ap₂ (λ (n : ℕ) (s : List ℕ). through_rounds keys n s) e (c.add.ensures l h)))
