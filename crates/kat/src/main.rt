@@ -11,7 +11,7 @@
 
 ghost use Rattle.std.specs.Prelude.{◌≤◌, ◌<◌, length, IfSome, OnSome};
 
-use numbers::Refusal;
+use numbers::{Refusal, answer_number};
 use reading::read_full;
 use std::io;
 
@@ -51,6 +51,7 @@ fn main(rt: HostRuntime) -> io::Result<()> {
 }
 
 fn lines(rt: &impl Print, mut text: Text) -> io::Result<()> {
+    // By a cursor and no split: after an empty line the next is read on, as it was.
     while let Some(letter) = text.letter() {
         let mut key = [0u8; 64];
         let mut block = [0u8; 64];
@@ -66,18 +67,25 @@ fn lines(rt: &impl Print, mut text: Text) -> io::Result<()> {
 // Prints what the line's call answers.
 fn answer(rt: &impl Print, run: Run, key: &[u8], block: &mut [u8]) -> io::Result<()> {
     match run {
-        Run::Encipher => {
-            print_number(rt, aes::encipher(key, block))?;
-            print_bytes(rt, block)
-        }
-        Run::Decipher => {
-            print_number(rt, aes::decipher(key, block))?;
-            print_bytes(rt, block)
-        }
+        Run::Encipher => crypt(rt, aes::encipher, key, block),
+        Run::Decipher => crypt(rt, aes::decipher, key, block),
         Run::SetUp => set_up(rt, key),
         Run::Substitute => substitutions(rt, sbox::sub_all, tables::sub_all),
         Run::SubstituteBack => substitutions(rt, sbox::inv_sub_all, tables::inv_sub_all),
     }
+}
+
+// The number of a call of AES, and the block afterwards.
+fn crypt<F: FnOnce(&[u8], &mut [u8]) -> Result<(), Refusal>>(
+    rt: &impl Print,
+    f: F,
+    key: &[u8],
+    block: &mut [u8],
+) -> io::Result<()>
+    requires callable { F.IsAlwaysCallable f }
+{
+    print_number(rt, f(key, block))?;
+    print_bytes(rt, block)
 }
 
 // The last word of the key's schedule.
@@ -110,12 +118,7 @@ fn substitutions<F: FnOnce(&mut [u8]), G: FnOnce(&mut [u8])>(
 }
 
 fn print_number(rt: &impl Print, answer: Result<(), Refusal>) -> io::Result<()> {
-    match answer {
-        Ok(()) => print!(rt; "0 "),
-        Err(Refusal::KeyLength) => print!(rt; "1 "),
-        Err(Refusal::MessageLength) => print!(rt; "2 "),
-        Err(_) => print!(rt; "? "),
-    }
+    print!(rt; "{} ", answer_number(answer))
 }
 
 fn print_bytes(rt: &impl Print, s: &[u8]) -> io::Result<()> {
@@ -175,6 +178,7 @@ impl Text<'_> {
 }
 
 // The value of a hex digit.
+// Lower case alone: to_digit takes upper case too, and what is printed may not change.
 fn digit(c: u8) -> Option<u8>
     ensures { IfSome result (λ d. d < 16) }
 {

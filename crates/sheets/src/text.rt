@@ -45,9 +45,10 @@ pub fn take_text(r: &[u8; RECORD_SIZE], keys: Keys, out: &mut [u8])
     if m == u8::from(Mark::Clear) {
         return;
     }
-    if m == u8::from(Mark::Old) {
-        let _ = eme2::decipher(keys.old, &h, &mut out[0..l]);
-        return;
-    }
-    let _ = eme2::decipher(keys.new, &h, &mut out[0..l]);
+    let key = if m == u8::from(Mark::Old) {
+        keys.old
+    } else {
+        keys.new
+    };
+    let _ = eme2::decipher(key, &h, &mut out[0..l]);
 }

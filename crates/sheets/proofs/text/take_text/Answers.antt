@@ -1,10 +1,12 @@
 -- `sheets::text::take_text` meets its contract: the stored text copied, and deciphered there under the key that the mark names.
 -- Assumes nothing.
-use Rattle.std.proofs.Common.{◌≡◌, sym, ap, ◌∙◌, ℕ, List, ◌++◌, drop, arith}
-use Rattle.records.specs.Record.{mark, len, stored}
+use Rattle.std.proofs.Common.{◌≡◌, sym, ap, ◌∙◌, ℕ, List, ◌++◌, true, drop, arith}
+use Rattle.eme2.specs.Transform.{afterwards}
+use Rattle.records.specs.Record.{mark, len, lead_of, stored}
+use Rattle.sheets.specs.Text.{text_of}
 use Rattle.sheets.proofs.TextLaws.{copied, opened, text_clear, text_old, text_new}
 use Rattle.sheets.proofs.text.take_text.Goals as goal
-use Rattle.sheets.proofs.text.take_text.Goals.{After-copy}
+use Rattle.sheets.proofs.text.take_text.Goals.{After-copy, then-m-from-2, else-m-from-2}
 
 -- the stored text, copied
 put_there : (c : After-copy)
@@ -22,23 +24,22 @@ returns-then-m-from c =
     put_there (goal.at.returns-then-m-from c).After-copy
     ∙ ap (λ (x : List ℕ). x ++ drop (len r) a.out.now) (sym (text_clear r a.keys.old.now a.keys.new.now e))
 
-pub returns-then-m-from-2 : goal.returns-then-m-from-2
-returns-then-m-from-2 c =
-    let a = c.args in
-    let r : List ℕ = a.r.now in
-    let d : List ℕ = drop (len r) a.out.now in
-    let e : mark r ≡ 1 = sym c.mark-m.ensures ∙ c.if-m-from-2.true ∙ c.from-2.ensures in
-    opened r a.keys.old.now c.load-h.result c.decipher.new.message d c.copy.new.s c.text_length-l.result (omega (arith, c.requires))
-    c.text_length-l.ensures c.load-h.ensures (put_there (goal.at.returns-then-m-from-2 c).After-copy) c.decipher.ensures.1
-    ∙ ap (λ (x : List ℕ). x ++ d) (sym (text_old r a.keys.old.now a.keys.new.now (λ q. let z : ⊥ = omega arith in z) e))
-
 pub returns : goal.returns
 returns c =
     let a = c.args in
     let r : List ℕ = a.r.now in
     let d : List ℕ = drop (len r) a.out.now in
+    let k : List ℕ = c.if-m-from-2.key.now in
     let y : mark r ≡ 0 → ⊥ = λ q. c.if-m-from.false (c.mark-m.ensures ∙ q ∙ sym c.from.ensures) in
-    let z : mark r ≡ 1 → ⊥ = λ q. c.if-m-from-2.false (c.mark-m.ensures ∙ q ∙ sym c.from-2.ensures) in
-    opened r a.keys.new.now c.load-h.result c.decipher-2.new.message d c.copy.new.s c.text_length-l.result (omega (arith, c.requires))
-    c.text_length-l.ensures c.load-h.ensures (put_there (goal.at.returns c).After-copy) c.decipher-2.ensures.1
-    ∙ ap (λ (x : List ℕ). x ++ d) (sym (text_new r a.keys.old.now a.keys.new.now y z))
+    let t : afterwards true k (lead_of r) (stored r) ≡ text_of a.keys.old.now a.keys.new.now r =
+    elim c.if-m-from-2.branch [
+      | then-m-from-2 w ↦
+          let e : mark r ≡ 1 = sym c.mark-m.ensures ∙ w.if-m-from-2.true ∙ c.from-2.ensures in
+          ap (λ x. afterwards true x.now (lead_of r) (stored r)) w.key-is ∙ sym (text_old r a.keys.old.now a.keys.new.now y e)
+      | else-m-from-2 w ↦
+          let z : mark r ≡ 1 → ⊥ = λ q. w.if-m-from-2.false (c.mark-m.ensures ∙ q ∙ sym c.from-2.ensures) in
+          ap (λ x. afterwards true x.now (lead_of r) (stored r)) w.key-is ∙ sym (text_new r a.keys.old.now a.keys.new.now y z)
+    ] in
+    opened r k c.load-h.result c.decipher.new.message d c.copy.new.s c.text_length-l.result (omega (arith, c.requires))
+    c.text_length-l.ensures c.load-h.ensures (put_there (goal.at.returns c).After-copy) c.decipher.ensures.1
+    ∙ ap (λ (x : List ℕ). x ++ d) t
