@@ -71,7 +71,7 @@ fn inverse(keys: RoundKeys, b: [u8; 16]) -> [u8; 16]
     ensures { result ≡ inv_cipher keys.keys keys.rounds b }
 {
     let mut s = xor(b, keys.keys[keys.rounds]);
-    // By number, as 5.1 numbers the round keys; backwards over a part of the array the proof did not close when tried.
+    // By number, as 5.3 numbers the round keys: backwards over a part of the array, what is left goes by lengths, and is no plainer.
     for j in (1..keys.rounds).rev() {
         s = inv_mix_columns(xor(inv_sub_bytes(inv_shift_rows(s)), keys.keys[j]));
     }

