@@ -26,6 +26,7 @@ pub struct CheckValues {
     pub counts: Counts,
 }
 
+// No Values of a Went: its outcome is an enum, and what stands behind the pointer is a number.
 #[derive(Clone, Copy)]
 pub struct StepValues {
     pub number: u32,
@@ -34,7 +35,7 @@ pub struct StepValues {
 }
 
 // What a call gave, or if it was refused what stood there before.
-pub fn given<T: Copy>(a: Result<T, Refusal>, before: T) -> Values<T>
+fn given<T: Copy>(a: Result<T, Refusal>, before: T) -> Values<T>
     ensures { (result.number ≡ number_of a) × (result.behind ≡ value_or before a) }
 {
     match a {
@@ -56,6 +57,7 @@ pub fn check(store: &[u8], fault: u32, counts: Counts) -> CheckValues
             fault,
             counts,
         },
+        // 256 is what C is answered for a faulty slot, and no refusal.
         Ok(Checked::Fault(fault)) => CheckValues {
             number: 256,
             fault,
