@@ -41,7 +41,10 @@ pub fn copy(s: &mut [u8], at: usize, text: &[u8])
     requires { at + length text.now ≤ length s.old }
     ensures { s.new ≡ take at s.old ++ (text.now ++ drop (at + length text.now) s.old) }
 {
-    s[at..at + text.len()].copy_from_slice(text);
+    // By place: what std copies a slice with asks for `memmove`, which no call for C does.
+    for i in 0..text.len() {
+        s[at + i] = text[i];
+    }
 }
 
 // Twice the block in the field of 2^128 elements (000, 5.1), byte 0 the low end. Byte i - 1 is carried into byte i, and byte 15 by 87 hex
@@ -60,6 +63,8 @@ pub fn doubled(x: [u8; 16]) -> [u8; 16]
 }
 
 // The bytes of s from `at` on, fewer than 16, padded. `at` is 0 at both callers today; as `load` and `put` it takes any place.
+// Out of line: inlined where a short block is known to be there, the zeros after the copy become a call of `memset`.
+#[inline(never)]
 pub fn padded(s: &[u8], at: usize) -> [u8; 16]
     requires { (at ≤ length s.now) × (length s.now < at + 16) }
     ensures { result ≡ pad (drop at s.now) }
