@@ -3,3 +3,4 @@ pub mod FieldLaws
 pub mod WriteLaws
 pub mod RecordLaws
 pub mod EarlierLaws
+pub mod ZeroLaws

@@ -71,9 +71,10 @@ fn is_sound_used(r: &[u8; RECORD_SIZE]) -> bool
     zeros(&r[end..])
 }
 
-// Whether every byte is 0.
+// Whether every byte is 0. Eight at a time: most bytes of a store with free slots are asked here.
 fn zeros(s: &[u8]) -> bool
     ensures { result ≡ all_zero s.now }
 {
-    s.iter().all(|x| *x == 0)
+    let (eights, rest) = s.as_chunks::<8>();
+    eights.iter().all(|e| u64::from_le_bytes(*e) == 0) && rest.iter().all(|x| *x == 0)
 }
