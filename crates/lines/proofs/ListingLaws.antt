@@ -1,18 +1,22 @@
 -- Laws of the listing: a line from the fields that the code reads, the lines in a loop, and each way out of `list`.
 -- Assumes nothing.
 use mathlib.Core.Path.{◌≡◌, refl, sym, ap, ◌∙◌}
-use mathlib.Core.Bool.{Bool, cond}
+use mathlib.Core.Bool.{Bool, true, false, cond}
 use mathlib.Core.List.{List, [], ◌++◌}
 use Prim.Native.Nat.{ℕ, ◌+◌, ◌≤◌, ◌<◌}
 use native.Mathlib.Numerals.{add-one}
 use borrow.Author.Tests.{lt-ltb, le-ltb}
+use lib.Dec.{ltb}
 use lib.ListN.{length}
 use Rattle.numbers.specs.declared.Refusal.{Refusal}
-use Rattle.std.proofs.Common.{Result}
+use Rattle.numbers.specs.declared.Refusal.TheVariants.{StoreLength}
+use Rattle.numbers.specs.Numbers.{paper}
+use Rattle.std.proofs.Common.{Result, Ok, Err}
 use Rattle.records.specs.Record.{num, rev, mark, len}
-use Rattle.slots.specs.Slots.{slot}
+use Rattle.slots.specs.Slots.{slots, slot, bad_size}
 use Rattle.checking.specs.declared.Checked.{Checked}
-use Rattle.checking.specs.Check.{check_answer}
+use Rattle.checking.specs.declared.Checked.TheVariants.{Fault}
+use Rattle.checking.specs.Check.{first_fault, counts, check_answer}
 use Rattle.checking.proofs.CheckLaws.{used_not, used_so}
 use Rattle.lines.specs.Laid.{Laid}
 use Rattle.lines.specs.Listing.{most, space, newline, too_long, field, line, record_line, slot_line, lines, report, listing, Listed}
@@ -52,6 +56,16 @@ module _ (s : List ℕ) where
   unfolding listing
   listing_checked a h e =
       ap (λ (t : Bool). cond t too_long (report s (check_answer s))) (le-ltb most (length s) h) ∙ ap (report s) (sym e)
+
+  -- check refuses nothing but the size
+  size_alone : (a b : Bool) (x : Refusal) → Err x ≡ cond a (Err StoreLength) (cond b (Ok (Fault (first_fault s))) (counts s)) → x ≡ StoreLength
+  size_alone true b x e = cc
+  size_alone false true x e = cc
+  size_alone false false x e = cc
+
+  pub refused_4 : (x : Refusal) → Err x ≡ check_answer s → paper x ≡ 4
+  unfolding check_answer
+  refused_4 x e = ap paper (size_alone (bad_size s) (ltb (first_fault s) (slots s)) x e)
 
   -- what is laid from the front on is the output
   pub listed : {t b b' : List ℕ} {n : ℕ} → listing s ≡ t → Laid t 0 b n b' → Listed s b n b'

@@ -4,6 +4,7 @@ use mathlib.Core.Path.{◌≡◌, refl, sym, ap, ◌∙◌}
 use mathlib.Core.Bool.{Bool, true, false, cond, ◌&&◌, false≢true}
 use mathlib.Core.List.{List}
 use Prim.Native.Nat.{ℕ, ◌+◌, ◌-◌, ◌≤◌, ◌<◌}
+use native.Mathlib.Nat.{le_of_eq}
 use native.Mathlib.Omega.{arith}
 use borrow.Author.Tests.{ltb-true, leb-true, eqb-true, lt-ltb, le-leb, eq-eqb, ne_eqb}
 use lib.Dec.{eqb, ltb, leb}
@@ -71,10 +72,13 @@ module _ (r : List ℕ) where
       && (eq-eqb (byte r 7) 0 c i && (le-leb 16 (len r) d i && (le-leb (len r) text_most e i && (f i && all_zero (drop (16 + len r) r))))))
 
   -- the bytes after the text, as the code takes them
-  pub rest_part : length r ≡ record_size → (l : ℕ) → l ≡ len r → take (record_size - (16 + l)) (drop (16 + l) r) ≡ drop (16 + len r) r
-  rest_part h l e =
-      let n : length (drop (16 + l) r) ≤ record_size - (16 + l) = omega (arith, length-drop (16 + l) r) in
-      take_all (record_size - (16 + l)) (drop (16 + l) r) n ∙ ap (λ (k : ℕ). drop (16 + k) r) e
+  pub rest_part : (l : ℕ) → l ≡ len r → take (length r - (16 + l)) (drop (16 + l) r) ≡ drop (16 + len r) r
+  rest_part l e =
+      take_all (length r - (16 + l)) (drop (16 + l) r) (le_of_eq (length-drop (16 + l) r)) ∙ ap (λ (k : ℕ). drop (16 + k) r) e
+
+  -- and of a whole record
+  pub record_rest : length r ≡ record_size → (l : ℕ) → l ≡ len r → take (record_size - (16 + l)) (drop (16 + l) r) ≡ drop (16 + len r) r
+  record_rest h l e = ap (λ (n : ℕ). take (n - (16 + l)) (drop (16 + l) r)) (sym h) ∙ rest_part l e
 
   pub sound_free : num r ≡ 0 → sound r ≡ all_zero r
   unfolding sound

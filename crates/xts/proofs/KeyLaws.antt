@@ -32,11 +32,23 @@ pub key2_part : (k : List ℕ) → take (length k - length k / 2) (drop (length 
 key2_part k = take_all (length k - length k / 2) (drop (length k / 2) k) (omega (arith, length-drop (length k / 2) k))
 
 module _ (k : List ℕ) (t : key_taken (length k) ≡ true) where
+  pub length-Key1 : length (Key1 k) ≡ length k / 2
+  length-Key1 = length-take-le (length k / 2) k (omega (arith, (halves (length k) t).same))
+
+  pub length-Key2 : length (Key2 k) ≡ length k / 2
+  length-Key2 = length-drop (length k / 2) k ∙ (halves (length k) t).same
+
   pub size_1 : key_size (length (Key1 k)) ≡ true
-  size_1 = ap key_size (length-take-le (length k / 2) k (omega (arith, (halves (length k) t).same))) ∙ (halves (length k) t).size
+  size_1 = ap key_size length-Key1 ∙ (halves (length k) t).size
 
   pub size_2 : key_size (length (Key2 k)) ≡ true
-  size_2 = ap key_size (length-drop (length k / 2) k ∙ (halves (length k) t).same) ∙ (halves (length k) t).size
+  size_2 = ap key_size length-Key2 ∙ (halves (length k) t).size
+
+  -- the part of the key from 0 on, up to its middle
+  pub key1_part : take (length k / 2 - 0) k ≡ Key1 k
+  key1_part =
+      let n : length k / 2 - 0 ≡ length k / 2 = omega arith in
+      ap (λ (j : ℕ). take j k) n
 
 -- what the block calls make with the round keys of a part of the key
 pub under : (back : Bool) (keys : List (List ℕ)) (nr : ℕ) (part key : List ℕ) → part ≡ key → keys ≡ round_keys part → nr ≡ length part / 4 + 6

@@ -5,7 +5,7 @@ use mathlib.Core.List.{List}
 use Prim.Native.Nat.{ℕ}
 use native.Mathlib.Omega.{arith}
 use Rattle.records.specs.Record.{all_zero}
-use Rattle.records.proofs.FieldLaws.{Used, unsound, unsound_spares, used_last, rest_part}
+use Rattle.records.proofs.FieldLaws.{Used, unsound, unsound_spares, used_last, record_rest}
 use Rattle.records.proofs.fields.is_sound_used.Goals as goal
 
 pub returns-then-revision-eq0 : goal.returns-then-revision-eq0
@@ -42,7 +42,7 @@ pub returns : goal.returns
 returns c =
     let r : List ℕ = c.args.r.now in
     c.zeros-2.ensures
-    ∙ ap all_zero (rest_part r (omega arith) c.text_length-l.result c.text_length-l.ensures)
+    ∙ ap all_zero (record_rest r (omega arith) c.text_length-l.result c.text_length-l.ensures)
     ∙ sym
     (used_last r (omega arith) (omega arith) c.if-r-ne0.false (omega arith) (omega arith)
     (sym c.zeros.ensures ∙ c.if-not-zeros.false))
