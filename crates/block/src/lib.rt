@@ -41,7 +41,7 @@ pub fn copy(s: &mut [u8], at: usize, text: &[u8])
     requires { at + length text.now ≤ length s.old }
     ensures { s.new ≡ take at s.old ++ (text.now ++ drop (at + length text.now) s.old) }
 {
-    // By place: what std copies a slice with asks for `memmove`, which no call for C does.
+    // By place: std's copy of one lent slice into another becomes a call of `memmove`, which no call for C makes.
     for i in 0..text.len() {
         s[at + i] = text[i];
     }

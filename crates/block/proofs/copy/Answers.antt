@@ -4,7 +4,6 @@ use Rattle.std.proofs.Common.{◌≡◌, ℕ, ◌+◌, ◌≤◌, List, ◌++◌
 use Rattle.std.proofs.Common.{arith, take_all}
 use lib.Seq.{paste, paste-zero, paste-suc}
 use Rattle.block.proofs.copy.Goals as goal
-use Rattle.block.proofs.copy.Goals.{At-loop-i}
 
 pub loop-i-init : goal.loop-i-init
 loop-i-init c = paste-zero c.args.s.now c.args.at c.args.text.now
